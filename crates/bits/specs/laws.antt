@@ -1,0 +1,6 @@
+pub mod Tab
+pub mod Sum
+pub mod Value
+pub mod Check
+pub mod Cases
+pub mod Parts

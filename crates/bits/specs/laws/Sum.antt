@@ -1,0 +1,113 @@
+-- Sums of bit lists, place by place: their length, that they are bits, and that the sum is associative, can be swapped, and undoes itself.
+use mathlib.Core.List.{List, [], _∷_, _++_}
+use mathlib.Core.Path.{_≡_, refl, sym, ap, ap₂, _∙_}
+use Prim.Native.Nat.{ℕ, zero, suc, _+_, _%_, _≤_, _<_}
+use native.Mathlib.Nat.{not-suc-le-zero, le-of-suc-le-suc}
+use native.Mathlib.Omega.{arith}
+use lib.ListN.{length, getD, replicate, length-replicate, getD-replicate}
+use Rattle.bits.specs.Bits.{Bits, sum, add, zeros, ones}
+
+-- ---- sums of bits
+pub sum-assoc : (a b c : ℕ) → sum a (sum b c) ≡ sum (sum a b) c
+sum-assoc a b c = omega arith
+
+pub sum-swap : (a b c : ℕ) → sum a (sum b c) ≡ sum b (sum a c)
+sum-swap a b c = omega arith
+
+pub sum-twice : (a b : ℕ) → b ≤ 1 → sum a (sum a b) ≡ b
+sum-twice a b h = omega arith
+
+-- ---- zeros and ones
+pub length-zeros : (n : ℕ) → length (zeros n) ≡ n
+unfolding zeros
+length-zeros n = length-replicate n 0
+
+pub length-ones : (n : ℕ) → length (ones n) ≡ n
+unfolding ones
+length-ones n = length-replicate n 1
+
+at-most-one : (n a : ℕ) → a ≤ 1 → Bits (replicate n a)
+at-most-one zero a h k = omega arith
+at-most-one (suc n) a h zero = h
+at-most-one (suc n) a h (suc k) = at-most-one n a h k
+
+pub bits-zeros : (n : ℕ) → Bits (zeros n)
+unfolding zeros
+bits-zeros n = at-most-one n 0 (omega arith)
+
+pub bits-ones : (n : ℕ) → Bits (ones n)
+unfolding ones
+bits-ones n = at-most-one n 1 (omega arith)
+
+pub bits-cons : (a : ℕ) (w : List ℕ) → a ≤ 1 → Bits w → Bits (a ∷ w)
+bits-cons a w h bw zero = h
+bits-cons a w h bw (suc k) = bw k
+
+pub bits-append : (v w : List ℕ) → Bits v → Bits w → Bits (v ++ w)
+bits-append [] w bv bw = bw
+bits-append (a ∷ v) w bv bw = bits-cons a (v ++ w) (bv 0) (bits-append v w (λ k. bv (suc k)) bw)
+
+-- ---- add
+pub length-add : (s w : List ℕ) → length (add s w) ≡ length w
+unfolding add
+length-add [] w = refl
+length-add (a ∷ s) [] = refl
+length-add (a ∷ s) (b ∷ w) = ap suc (length-add s w)
+
+pub bits-add : (s w : List ℕ) → Bits w → Bits (add s w)
+unfolding add
+bits-add [] w bw k = bw k
+bits-add (a ∷ s) [] bw k = bw k
+bits-add (a ∷ s) (b ∷ w) bw zero = omega arith
+bits-add (a ∷ s) (b ∷ w) bw (suc k) = bits-add s w (λ i. bw (suc i)) k
+
+pub add-zeros : (n : ℕ) (w : List ℕ) → Bits w → add (zeros n) w ≡ w
+unfolding add zeros
+add-zeros zero w bw = refl
+add-zeros (suc n) [] bw = refl
+add-zeros (suc n) (b ∷ w) bw =
+    let h : b ≤ 1 = bw 0 in
+    let e : sum 0 b ≡ b = omega arith in
+    ap₂ (λ (x : ℕ) (l : List ℕ). x ∷ l) e (add-zeros n w (λ k. bw (suc k)))
+
+pub add-swap : (g w v : List ℕ) → add g (add w v) ≡ add w (add g v)
+unfolding add
+add-swap [] w v = refl
+add-swap (x ∷ g) [] v = refl
+add-swap (x ∷ g) (y ∷ w) [] = refl
+add-swap (x ∷ g) (y ∷ w) (z ∷ v) = ap₂ (λ (a : ℕ) (l : List ℕ). a ∷ l) (sum-swap x y z) (add-swap g w v)
+
+pub add-assoc : (g w v : List ℕ) → length w ≡ length v → add g (add w v) ≡ add (add g w) v
+unfolding add
+add-assoc [] w v e = refl
+add-assoc (x ∷ g) [] [] e = refl
+add-assoc (x ∷ g) [] (z ∷ v) e = let z : ⊥ = omega (arith, e) in absurd z
+add-assoc (x ∷ g) (y ∷ w) [] e = refl
+add-assoc (x ∷ g) (y ∷ w) (z ∷ v) e = ap₂ (λ (a : ℕ) (l : List ℕ). a ∷ l) (sum-assoc x y z) (add-assoc g w v (omega (arith, e)))
+
+pub add-twice : (g w : List ℕ) → Bits w → add g (add g w) ≡ w
+unfolding add
+add-twice [] w bw = refl
+add-twice (x ∷ g) [] bw = refl
+add-twice (x ∷ g) (b ∷ w) bw = ap₂ (λ (a : ℕ) (l : List ℕ). a ∷ l) (sum-twice x b (bw 0)) (add-twice g w (λ k. bw (suc k)))
+
+-- what is added to both sides drops out
+pub add-cancel : (g w v : List ℕ) → length w ≡ length v → Bits v → add (add g w) (add g v) ≡ add w v
+add-cancel g w v e bv =
+    sym (add-assoc g w (add g v) (e ∙ sym (length-add g v)))
+    ∙ ap (λ (l : List ℕ). add g l) (add-swap w g v)
+    ∙ add-twice g (add w v) (bits-add w v bv)
+
+-- a sum with something longer goes no further than itself
+pub add-append : (s v w : List ℕ) → length s ≤ length v → add s (v ++ w) ≡ add s v ++ w
+unfolding add
+add-append [] v w h = refl
+add-append (a ∷ s) [] w h = absurd (not-suc-le-zero h)
+add-append (a ∷ s) (b ∷ v) w h = ap (λ (l : List ℕ). sum a b ∷ l) (add-append s v w (le-of-suc-le-suc h))
+
+pub at-add : (s w : List ℕ) (k : ℕ) → k < length s → k < length w → getD (add s w) k 0 ≡ sum (getD s k 0) (getD w k 0)
+unfolding add
+at-add [] w k h l = absurd (not-suc-le-zero h)
+at-add (a ∷ s) [] k h l = absurd (not-suc-le-zero l)
+at-add (a ∷ s) (b ∷ w) zero h l = refl
+at-add (a ∷ s) (b ∷ w) (suc k) h l = at-add s w k (le-of-suc-le-suc h) (le-of-suc-le-suc l)

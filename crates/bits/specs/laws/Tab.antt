@@ -1,0 +1,84 @@
+-- A tabulated list has its length and its entries, and is the only list that has them; and what a filling loop needs of them.
+use mathlib.Core.Bool.{Bool, true, false}
+use mathlib.Core.List.{List, [], _∷_, _++_}
+use mathlib.Core.Logic.{⊎-elim}
+use mathlib.Core.Path.{_≡_, refl, sym, ap, _∙_, subst}
+use Prim.Native.Nat.{ℕ, zero, suc, _+_, _-_, _≤_, _<_}
+use native.Mathlib.Nat.{add-zero, zero-add, add-suc, suc-add, le-of-suc-le-suc, not-suc-le-zero, eq-or-lt-of-le}
+use native.Mathlib.Numerals.{add-one}
+use native.Mathlib.Omega.{arith}
+use lib.Dec.{T}
+use lib.ListN.{length, getD, set, length-set, length-append, List·getD-append}
+use lib.Seq.{ext-getD, getD-set-same, getD-set-other, getD-append-add}
+use borrow.Author.Count.{below-more}
+use Rattle.bits.specs.Bits.{tab, tabFrom, both, allBelow}
+
+-- ---- one computed test over a range gives the rule at each number
+pub both-left : (a b : Bool) → T (both a b) → T a
+both-left true b t = tt
+both-left false b t = t
+
+pub both-right : (a b : Bool) → T (both a b) → T b
+both-right true b t = t
+both-right false b t = absurd t
+
+pub below : (f : ℕ → Bool) (n : ℕ) → T (allBelow f n) → (k : ℕ) → k < n → T (f k)
+below f zero t k h = absurd (not-suc-le-zero h)
+below f (suc n) t k h =
+    ⊎-elim (λ e. subst (λ (m : ℕ). T (f m)) (sym e) (both-left (f n) (allBelow f n) t))
+    (λ l. below f n (both-right (f n) (allBelow f n) t) k l)
+    (eq-or-lt-of-le (le-of-suc-le-suc h))
+
+-- ---- tab
+length-from : (i n : ℕ) (f : ℕ → ℕ) → length (tabFrom i n f) ≡ n
+unfolding tabFrom
+length-from i zero f = refl
+length-from i (suc n) f = ap suc (length-from (suc i) n f)
+
+at-from : (i n : ℕ) (f : ℕ → ℕ) (k : ℕ) → k < n → getD (tabFrom i n f) k 0 ≡ f (i + k)
+unfolding tabFrom
+at-from i zero f k h = absurd (not-suc-le-zero h)
+at-from i (suc n) f zero h = ap f (sym (add-zero i))
+at-from i (suc n) f (suc k) h = at-from (suc i) n f k (le-of-suc-le-suc h) ∙ ap f (suc-add i k ∙ sym (add-suc i k))
+
+pub length-tab : (n : ℕ) (f : ℕ → ℕ) → length (tab n f) ≡ n
+unfolding tab
+length-tab n f = length-from 0 n f
+
+pub at-tab : (n : ℕ) (f : ℕ → ℕ) (k : ℕ) → k < n → getD (tab n f) k 0 ≡ f k
+unfolding tab
+at-tab n f k h = at-from 0 n f k h ∙ ap f (zero-add k)
+
+pub is-tab : (n : ℕ) (f : ℕ → ℕ) (xs : List ℕ) → length xs ≡ n → ((k : ℕ) → k < n → getD xs k 0 ≡ f k) → xs ≡ tab n f
+is-tab n f xs l h =
+    ext-getD 0 xs (tab n f) (l ∙ sym (length-tab n f))
+    (λ k lt. let m : k < n = omega (arith, l) in h k m ∙ sym (at-tab n f k m))
+
+pub tab-same : (n : ℕ) (f g : ℕ → ℕ) → ((k : ℕ) → k < n → f k ≡ g k) → tab n f ≡ tab n g
+tab-same n f g h = is-tab n g (tab n f) (length-tab n f) (λ k lt. at-tab n f k lt ∙ h k lt)
+
+-- ---- a loop that fills out[x] = f x for rising x, up to n: its invariant, its start, its turn and its end
+abbrev pub Filled : (ℕ → ℕ) → ℕ → ℕ → List ℕ → Type 0
+Filled f n x out = (x ≤ n) × (length out ≡ n) × ((y : ℕ) → y < x → getD out y 0 ≡ f y)
+
+pub filled-none : (f : ℕ → ℕ) (n : ℕ) (out : List ℕ) → length out ≡ n → Filled f n 0 out
+filled-none f n out l = (omega arith, l, λ y h. absurd (not-suc-le-zero h))
+
+pub filled-more : (f : ℕ → ℕ) (n x v : ℕ) (out : List ℕ) → Filled f n x out → x < n → v ≡ f x → Filled f n (x + 1) (set out x v)
+filled-more f n x v out inv l e = (
+  omega arith,
+  length-set out x v ∙ inv .1,
+  below-more (λ (y : ℕ). getD (set out x v) y 0 ≡ f y) x
+      (λ y lt. getD-set-other out x y v 0 (λ (q : y ≡ x). omega (arith, q, lt)) ∙ inv .2 y lt)
+      (getD-set-same out x v 0 (omega (arith, inv .1)) ∙ e),
+)
+
+pub filled-all : (f : ℕ → ℕ) (n x : ℕ) (out : List ℕ) → Filled f n x out → n ≤ x → out ≡ tab n f
+filled-all f n x out inv l = is-tab n f out (inv .1) (λ k lt. inv .2 k (omega arith))
+
+-- ---- getD through ++, by an index given as an equation
+pub at-left : (xs ys : List ℕ) (k : ℕ) → k < length xs → getD (xs ++ ys) k 0 ≡ getD xs k 0
+at-left xs ys k h = List·getD-append xs ys 0 k h
+
+pub at-right : (xs ys : List ℕ) (n k i : ℕ) → length xs ≡ n → i ≡ n + k → getD (xs ++ ys) i 0 ≡ getD ys k 0
+at-right xs ys n k i l e = rw (e, ← l) (getD-append-add xs ys k 0)

@@ -1,0 +1,20 @@
+-- The generators as the code carries them, each one computed test.
+use mathlib.Core.Path.{_≡_, refl}
+use Rattle.bits.specs.Bits.{digits, tab, tabFrom}
+use Rattle.parity.specs.Division.{occurs, product, lower, speechG, controlG, accessG, schG}
+
+pub speech-number : digits 3 0b011 ≡ speechG
+unfolding digits tab tabFrom occurs product lower speechG
+speech-number = refl
+
+pub control-number : digits 40 0x4820009 ≡ controlG
+unfolding digits tab tabFrom occurs product lower controlG
+control-number = refl
+
+pub access-number : digits 6 0b101111 ≡ accessG
+unfolding digits tab tabFrom occurs product lower accessG
+access-number = refl
+
+pub sch-number : digits 10 0b0101110101 ≡ schG
+unfolding digits tab tabFrom occurs product lower schG
+sch-number = refl

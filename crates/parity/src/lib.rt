@@ -1,0 +1,53 @@
+// Division of bits by a generator polynomial, on which all parity bits stand (01, Coding rules).
+ghost use mathlib.Core.Path.{_≡_};
+ghost use Prim.Native.Nat.{_≤_, _<_, _^_};
+ghost use Rattle.bits.specs.Bits.{value, digits};
+ghost use Rattle.parity.specs.Asked.{Divisible};
+ghost use Rattle.parity.specs.Division.{remainder};
+ghost use Rattle.parity.specs.laws.Brought.{bringN};
+
+// The generators below their leading power: D^3 + D + 1 is 011 (000, 3.1.2.1, 4.1.2, 4.6, 4.7).
+pub const SPEECH: u64 = 0b011;
+
+pub const CONTROL: u64 = 0x4820009;
+
+pub const ACCESS: u64 = 0b101111;
+
+pub const SCH: u64 = 0b0101110101;
+
+// D^degree, as the number whose bit `degree` is 1.
+fn power(degree: u32) -> u64
+    requires { ⌜ degree ≤ 62 ⌝ }
+    ensures { λ r. ⌜ r ≡ 2 ^ degree ⌝ }
+{
+    1 << degree
+}
+
+// The next bit is brought down; where that makes a leading 1, the generator strikes it out.
+fn bring(generator: u64, top: u64, held: u64, bit: u64) -> u64
+    requires { ⌜ (top ≤ 2 ^ 62) × (held < top) × (bit ≤ 1) ⌝ }
+    ensures { λ r. ⌜ r ≡ bringN generator top held bit ⌝ }
+{
+    let brought = 2 * held + bit;
+    if brought < top {
+        brought
+    } else {
+        generator ^ (brought - top)
+    }
+}
+
+// What division of w by D^degree + generator leaves, as a number.
+pub fn remainder(generator: u64, degree: u32, w: &[u8]) -> u64
+    requires { ⌜ Divisible generator degree (now w) ⌝ }
+    ensures { λ r. ⌜ r ≡ value (remainder (digits degree generator) (now (w .entry))) ⌝ }
+{
+    let top = power(degree);
+    let mut held = 0;
+    let mut i = 0;
+    while i < w.len() {
+        let next = bring(generator, top, held, w[i] as u64);
+        held = next;
+        i += 1;
+    }
+    held
+}

@@ -1,0 +1,12 @@
+-- `trellis::pair` is right: its table is the printed one, whose rule is proved over the whole table.
+use borrow.Author.Needs.{needs}
+use Rattle.trellis.specs.laws.Table.{printed, printed-right}
+use Rattle.trellis.proofs.pair.Statement.{statement}
+use Rattle.trellis.proofs.pair.Tie as tie
+
+returns : tie.Need-returns
+unfolding printed
+returns c = printed-right (c .args .s) (c .args .b) (c .pre .0) (c .pre .1)
+
+pub pair-spec : {M : Type 1} → statement M
+pair-spec = tie.close (tie.spec (λ c. search needs) (λ c. search needs) (λ c. search needs) returns)

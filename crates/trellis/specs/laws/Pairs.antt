@@ -1,0 +1,100 @@
+-- The pairs by the register's state: what the coding loop needs.
+use mathlib.Core.Bool.{Bool, true, false}
+use mathlib.Core.List.{List}
+use mathlib.Core.Logic.{⊎-elim}
+use mathlib.Core.Path.{_≡_, refl, sym, ap, ap₂, _∙_}
+use Prim.Native.Nat.{ℕ, zero, suc, _+_, _-_, _*_, _/_, _%_, _≤_, _<_}
+use native.Mathlib.Omega.{arith}
+use lib.Dec.{ltb}
+use lib.ListN.{length, getD}
+use borrow.Author.Tests.{lt-ltb, le-ltb, eq-eqb, ne-eqb}
+use Rattle.bits.specs.Bits.{Bits, pick}
+use Rattle.bits.specs.laws.Cases.{lt-or-le}
+use Rattle.trellis.specs.Pairs.{back, first, second, codedAt, stateAt, pairOf}
+
+-- ---- what stands j places back
+pub back-early : (u : List ℕ) (k j : ℕ) → k < j → back u k j ≡ 0
+unfolding back
+back-early u k j h = rw (lt-ltb k j h)
+
+pub back-late : (u : List ℕ) (k j : ℕ) → j ≤ k → back u k j ≡ getD u (k - j) 0
+unfolding back
+back-late u k j h = rw (le-ltb k j h)
+
+pub back-now : (u : List ℕ) (k : ℕ) → back u k 0 ≡ getD u k 0
+back-now u k = let e : k - 0 ≡ k = omega arith in back-late u k 0 (omega arith) ∙ ap (λ (i : ℕ). getD u i 0) e
+
+-- one bit on, everything stands one place further back
+pub back-next : (u : List ℕ) (k j : ℕ) → back u (k + 1) (suc j) ≡ back u k j
+back-next u k j =
+    ⊎-elim (λ (h : k < j). back-early u (k + 1) (suc j) (omega arith) ∙ sym (back-early u k j h))
+    (λ (h : j ≤ k). let e : k + 1 - suc j ≡ k - j = omega arith in
+    back-late u (k + 1) (suc j) (omega arith) ∙ ap (λ (i : ℕ). getD u i 0) e ∙ sym (back-late u k j h))
+    (lt-or-le k j)
+
+pub back-bit : (u : List ℕ) → Bits u → (k j : ℕ) → back u k j ≤ 1
+back-bit u bu k j =
+    ⊎-elim (λ (h : k < j). rw (back-early u k j h) (omega arith))
+    (λ (h : j ≤ k). rw (back-late u k j h) (bu (k - j)))
+    (lt-or-le k j)
+
+-- ---- 01's two formulas, by the index
+pub coded-even : (u : List ℕ) (k : ℕ) → codedAt u (2 * k) ≡ first u k
+unfolding codedAt
+coded-even u k =
+    let e : 2 * k / 2 ≡ k = omega arith in
+    let z : 2 * k % 2 ≡ 0 = omega arith in
+    rw (eq-eqb (2 * k % 2) 0 z, e)
+
+pub coded-odd : (u : List ℕ) (k : ℕ) → codedAt u (2 * k + 1) ≡ second u k
+unfolding codedAt
+coded-odd u k =
+    let e : (2 * k + 1) / 2 ≡ k = omega arith in
+    rw (ne-eqb ((2 * k + 1) % 2) 0 (λ (q : (2 * k + 1) % 2 ≡ 0). omega arith), e)
+
+first-lt : (u : List ℕ) (k : ℕ) → first u k < 2
+unfolding first
+first-lt u k = omega arith
+
+second-lt : (u : List ℕ) (k : ℕ) → second u k < 2
+unfolding second
+second-lt u k = omega arith
+
+-- ---- the state
+pub state-start : (u : List ℕ) → stateAt u 0 ≡ 0
+unfolding stateAt
+state-start u = rw (back-early u 0 1 (omega arith), back-early u 0 2 (omega arith), back-early u 0 3 (omega arith), back-early u 0 4 (omega arith))
+
+module _ (u : List ℕ) (bu : Bits u) (k : ℕ) where
+  pub state-lt : stateAt u k < 16
+  unfolding stateAt
+  state-lt = omega (arith, back-bit u bu k 1, back-bit u bu k 2, back-bit u bu k 3, back-bit u bu k 4)
+
+  pub state-next : stateAt u (k + 1) ≡ 8 * getD u k 0 + stateAt u k / 2
+  unfolding stateAt
+  state-next =
+      rw (back-next u k 0, back-next u k 1, back-next u k 2, back-next u k 3, back-now u k)
+      (omega (arith, back-bit u bu k 4))
+
+  eighths : stateAt u k / 8 ≡ back u k 1
+  unfolding stateAt
+  eighths = omega (arith, back-bit u bu k 1, back-bit u bu k 2, back-bit u bu k 3, back-bit u bu k 4)
+
+  halves : stateAt u k / 2 % 2 ≡ back u k 3
+  unfolding stateAt
+  halves = omega (arith, back-bit u bu k 1, back-bit u bu k 2, back-bit u bu k 3, back-bit u bu k 4)
+
+  ones : stateAt u k % 2 ≡ back u k 4
+  unfolding stateAt
+  ones = omega (arith, back-bit u bu k 4)
+
+  -- ---- the pair
+  pair-is : pairOf (stateAt u k) (getD u k 0) ≡ 2 * first u k + second u k
+  unfolding pairOf first second
+  pair-is = rw (eighths, halves, ones, back-now u k)
+
+  pub pair-first : (p : ℕ) → p ≡ pairOf (stateAt u k) (getD u k 0) → p / 2 ≡ codedAt u (2 * k)
+  pair-first p e = rw (e, pair-is, coded-even u k) (omega (arith, second-lt u k))
+
+  pub pair-second : (p : ℕ) → p ≡ pairOf (stateAt u k) (getD u k 0) → p % 2 ≡ codedAt u (2 * k + 1)
+  pair-second p e = rw (e, pair-is, coded-odd u k) (omega (arith, second-lt u k))

@@ -1,0 +1,120 @@
+//! The reference: sends the blocks of GSM 05.03 by the plainest reading of its formulas.
+//! Its answers are laid beside those of the kit and of the access sheet, line by line.
+//!
+//! reference answer                   reads kit lines, prints the answers
+//! reference sheet                    reads access sheet lines, prints the answers
+//! reference make-lines SEED COUNT    prints COUNT kit lines
+//! reference make-sheet SEED COUNT    prints COUNT access sheet lines
+
+// Loops keep the index k of the standard, so that each reads like its formula.
+#![allow(clippy::needless_range_loop, clippy::manual_memcpy)]
+
+mod burst;
+mod coding;
+mod kit;
+mod lines;
+mod page;
+mod polynomial;
+mod random;
+mod sheet;
+mod sheet_lines;
+
+use std::io::{Read, Result, Write};
+use std::process::ExitCode;
+
+const USAGE: &str =
+    "usage: reference answer | sheet | make-lines SEED COUNT | make-sheet SEED COUNT";
+
+/// What the command line asks for.
+#[derive(Debug, PartialEq)]
+enum Task {
+    Answer,
+    Sheet,
+    MakeLines(u64, u64),
+    MakeSheet(u64, u64),
+}
+
+/// The task that the arguments name; nothing if they name none.
+fn task(arguments: &[String]) -> Option<Task> {
+    let words: Vec<&str> = arguments.iter().map(|word| word.as_str()).collect();
+    match words.as_slice() {
+        ["answer"] => Some(Task::Answer),
+        ["sheet"] => Some(Task::Sheet),
+        ["make-lines", seed, count] => {
+            Some(Task::MakeLines(seed.parse().ok()?, count.parse().ok()?))
+        }
+        ["make-sheet", seed, count] => {
+            Some(Task::MakeSheet(seed.parse().ok()?, count.parse().ok()?))
+        }
+        _ => None,
+    }
+}
+
+/// All of standard input, any bytes.
+fn standard_input() -> Result<Vec<u8>> {
+    let mut input = Vec::new();
+    std::io::stdin().read_to_end(&mut input)?;
+    Ok(input)
+}
+
+/// Does the task and prints what comes of it.
+fn run(task: Task) -> Result<()> {
+    let output = match task {
+        Task::Answer => page::answers(&standard_input()?, kit::answer),
+        Task::Sheet => page::answers(&standard_input()?, sheet::answer),
+        Task::MakeLines(seed, count) => page::made(seed, count, lines::line),
+        Task::MakeSheet(seed, count) => page::made(seed, count, sheet_lines::line),
+    };
+    let mut paper = std::io::stdout();
+    paper.write_all(&output)?;
+    // A last line without its newline would wait otherwise.
+    paper.flush()
+}
+
+fn main() -> ExitCode {
+    let arguments: Vec<String> = std::env::args().skip(1).collect();
+    let done = match task(&arguments) {
+        Some(task) => run(task).map_err(|error| error.to_string()),
+        None => Err(USAGE.to_string()),
+    };
+    match done {
+        Ok(()) => ExitCode::SUCCESS,
+        Err(words) => {
+            eprintln!("{}", words);
+            ExitCode::FAILURE
+        }
+    }
+}
+
+#[cfg(test)]
+mod tests {
+    use super::*;
+
+    /// The task that a command line, written with single spaces, names.
+    fn task_of(command: &str) -> Option<Task> {
+        let arguments: Vec<String> = command.split(' ').map(String::from).collect();
+        task(&arguments)
+    }
+
+    #[test]
+    fn the_four_commands_are_known() {
+        assert_eq!(task_of("answer"), Some(Task::Answer));
+        assert_eq!(task_of("sheet"), Some(Task::Sheet));
+        assert_eq!(task_of("make-lines 7 100"), Some(Task::MakeLines(7, 100)));
+        assert_eq!(task_of("make-sheet 8 200"), Some(Task::MakeSheet(8, 200)));
+    }
+
+    #[test]
+    fn other_commands_are_not() {
+        for command in [
+            "",
+            "answer 1",
+            "make-lines",
+            "make-lines 7",
+            "make-lines x 5",
+            "make-sheet 7 -1",
+        ] {
+            assert_eq!(task_of(command), None, "{}", command);
+        }
+    }
+}
