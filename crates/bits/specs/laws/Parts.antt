@@ -4,7 +4,7 @@ use mathlib.Core.Path.{_≡_, sym, ap, ap₂, _∙_}
 use Prim.Native.Nat.{ℕ, _+_, _*_, _≤_}
 use native.Mathlib.Omega.{arith}
 use lib.ListN.{length, take, drop, length-append, length-drop, drop-of-length-le}
-use lib.Seq.{take-at, drop-at, drop-drop}
+use lib.Seq.{take-at, drop-at, length-take-le}
 
 -- what a lent part, the k bytes from a on, leaves when it comes back as y
 abbrev pub put : ℕ → ℕ → List ℕ → List ℕ → List ℕ
@@ -30,3 +30,29 @@ put-four k e w x y z le lw lx ly =
     ∙ ap (λ (l : List ℕ). (((w ++ x) ++ y) ++ z) ++ l) n
     ∙ append-nil (((w ++ x) ++ y) ++ z)
     ∙ simp append-assoc
+
+-- three parts, up to a, up to b and up to the end, of i, j and k bytes
+pub put-three : (e w x y : List ℕ) (i j k a b : ℕ) → length w ≡ a → i ≡ a → length x ≡ j → a + j ≡ b → length e ≡ b + k
+    → put b k y (put a j x (put 0 i w e)) ≡ w ++ (x ++ y)
+put-three e w x y i j k a b lw ei lx ej le =
+    let wx : length (w ++ x) ≡ b = length-append w x ∙ omega (arith, lw, lx) in
+    let n : drop k (drop j (drop i e)) ≡ [] = drop-of-length-le (drop j (drop i e)) {i = k} (simp length-drop (omega (arith, le))) in
+    ap (put b k y) (put-next w (drop i e) x a j lw)
+    ∙ put-next (w ++ x) (drop j (drop i e)) y b k wx
+    ∙ ap (λ (l : List ℕ). ((w ++ x) ++ y) ++ l) n
+    ∙ append-nil ((w ++ x) ++ y)
+    ∙ append-assoc w x y
+
+-- one part in the middle
+pub put-middle : (p m r y : List ℕ) (a k : ℕ) → length p ≡ a → length m ≡ k → put a k y (p ++ (m ++ r)) ≡ p ++ (y ++ r)
+put-middle p m r y a k lp lm =
+    put-next p (m ++ r) y a k lp ∙ ap (λ (l : List ℕ). (p ++ y) ++ l) (drop-at m r k lm) ∙ append-assoc p y r
+
+-- what is lent of a buffer is as long as was asked; and giving it back keeps the buffer's length
+pub length-lent : (e : List ℕ) (a k : ℕ) → a + k ≤ length e → length (take k (drop a e)) ≡ k
+length-lent e a k h = length-take-le k (drop a e) (simp length-drop (omega arith))
+
+pub length-put : (e y : List ℕ) (a k : ℕ) → a + k ≤ length e → length y ≡ k → length (put a k y e) ≡ length e
+length-put e y a k h l =
+    length-append (take a e) (y ++ drop k (drop a e))
+    ∙ rw (length-append y (drop k (drop a e)), length-drop k (drop a e), length-drop a e, length-take-le a e (omega arith)) (omega (arith, l))

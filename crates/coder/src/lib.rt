@@ -1,0 +1,101 @@
+// The public face for blocks: each entry answers every length, byte value and number (01, The bench and its edges).
+mod block;
+mod sacch;
+ghost use mathlib.Core.Bool.{true};
+ghost use mathlib.Core.Path.{_≡_};
+ghost use Prim.Native.Nat.{ℕ};
+ghost use lib.Dec.{eqb, leb};
+ghost use lib.ListN.{length};
+ghost use Rattle.bits.specs.Bits.{allBits, both};
+ghost use Rattle.coder.specs.Answers.{Meets, judged, numberOf};
+ghost use Rattle.coder.specs.Entries.{speechSent, controlSent, sacchSent, accessSent, schSent};
+
+// Why a call is refused (01, Numbers given for a no).
+pub enum Refusal {
+    // 1: a lent buffer has another length than the table says
+    Length,
+    // 2: a byte that is read as a bit is over 1
+    NotBits,
+    // 3: the identity is over 63
+    Identity,
+}
+
+// What a sending entry answers.
+pub enum Sent {
+    Done,
+    Refused(Refusal),
+}
+
+// 01's number of a refusal.
+pub fn number(r: Refusal) -> u8
+    ensures { λ n. ⌜ n ≡ numberOf r ⌝ }
+{
+    match r {
+        Refusal::Length => 1,
+        Refusal::NotBits => 2,
+        Refusal::Identity => 3,
+    }
+}
+
+// The first refusal that applies to an entry that reads `reads` bits into `writes` bytes, or none.
+fn judge(d: &[u8], reads: usize, out: usize, writes: usize, identity: u8) -> Sent
+    ensures { λ r. ⌜ r ≡ judged (both (eqb (length (now (d .entry))) reads) (eqb out writes)) (allBits (now (d .entry))) (leb identity 63) ⌝ }
+{
+    if d.len() != reads {
+        return Sent::Refused(Refusal::Length);
+    }
+    if out != writes {
+        return Sent::Refused(Refusal::Length);
+    }
+    if !bits::are_bits(d) {
+        return Sent::Refused(Refusal::NotBits);
+    }
+    if identity > 63 {
+        return Sent::Refused(Refusal::Identity);
+    }
+    Sent::Done
+}
+
+// Control block (SACCH and FACCH): 184 bits to 456.
+pub fn send_control(d: &[u8], c: &mut [u8]) -> Sent
+    ensures { λ r. ⌜ Meets (controlSent (now (d .entry)) (now (c .entry))) r (now (c .exit)) ⌝ }
+{
+    let told = judge(d, 184, c.len(), 456, 0);
+    if let Sent::Done = told {
+        block::code(parity::CONTROL, 40, 0, d, c);
+    }
+    told
+}
+
+// SACCH message: 184 bits to four bursts, 464.
+pub fn send_sacch(d: &[u8], e: &mut [u8]) -> Sent
+    ensures { λ r. ⌜ Meets (sacchSent (now (d .entry)) (now (e .entry))) r (now (e .exit)) ⌝ }
+{
+    let told = judge(d, 184, e.len(), 464, 0);
+    if let Sent::Done = told {
+        sacch::spread(d, e);
+    }
+    told
+}
+
+// Access: the identity and 8 bits to 36.
+pub fn send_access(identity: u8, d: &[u8], e: &mut [u8]) -> Sent
+    ensures { λ r. ⌜ Meets (accessSent identity (now (d .entry)) (now (e .entry))) r (now (e .exit)) ⌝ }
+{
+    let told = judge(d, 8, e.len(), 36, identity);
+    if let Sent::Done = told {
+        block::code(parity::ACCESS, 6, identity as u64, d, e);
+    }
+    told
+}
+
+// SCH: 25 bits to 78.
+pub fn send_sch(d: &[u8], e: &mut [u8]) -> Sent
+    ensures { λ r. ⌜ Meets (schSent (now (d .entry)) (now (e .entry))) r (now (e .exit)) ⌝ }
+{
+    let told = judge(d, 25, e.len(), 78, 0);
+    if let Sent::Done = told {
+        block::code(parity::SCH, 10, 0, d, e);
+    }
+    told
+}
