@@ -1,4 +1,5 @@
 pub mod Blocks
 pub mod Answers
 pub mod Entries
+pub mod Examples
 pub mod laws

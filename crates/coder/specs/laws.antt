@@ -1,4 +1,6 @@
 pub mod Answers
-pub mod Examples
 pub mod Protected
 pub mod Blocks
+pub mod Speech
+pub mod Settled
+pub mod Order

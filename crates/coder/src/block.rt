@@ -10,7 +10,7 @@ ghost use Rattle.trellis.specs.Pairs.{coded};
 ghost use Rattle.coder.specs.laws.Protected.{Protectable, Codable};
 
 // d, then ones up to place m, then zeros.
-fn lay(d: &[u8], m: usize, u: &mut [u8])
+pub(crate) fn lay(d: &[u8], m: usize, u: &mut [u8])
     requires { ⌜ (length (now d) ≤ m) × (m ≤ length (now u)) ⌝ }
     ensures { λ _. ⌜ now (u .exit) ≡ now (d .entry) ++ (ones (m - length (now (d .entry))) ++ zeros (length (now (u .entry)) - m)) ⌝ }
 {
@@ -22,7 +22,7 @@ fn lay(d: &[u8], m: usize, u: &mut [u8])
 }
 
 // d, its parity bits with the colour added, and four zeros. The parity bits are what d followed by ones leaves.
-pub fn protect(generator: u64, degree: u32, colour: u64, d: &[u8], u: &mut [u8])
+pub(crate) fn protect(generator: u64, degree: u32, colour: u64, d: &[u8], u: &mut [u8])
     requires { ⌜ Protectable generator degree (now d) (now u) ⌝ }
     ensures { λ _. ⌜ now (u .exit) ≡ now (d .entry) ++ (digits degree (bitXor (value (parity (digits degree generator) (now (d .entry)))) colour) ++ zeros 4) ⌝ }
 {
@@ -43,7 +43,7 @@ fn code_over(generator: u64, degree: u32, colour: u64, d: &[u8], u: &mut [u8], c
 }
 
 // The pairs of u: d, its parity bits with the colour added, and four zeros.
-pub fn code(generator: u64, degree: u32, colour: u64, d: &[u8], c: &mut [u8])
+pub(crate) fn code(generator: u64, degree: u32, colour: u64, d: &[u8], c: &mut [u8])
     requires { ⌜ Codable generator degree (now d) (now c) ⌝ }
     ensures { λ _. ⌜ now (c .exit) ≡ coded (now (d .entry) ++ (digits degree (bitXor (value (parity (digits degree generator) (now (d .entry)))) colour) ++ zeros 4)) ⌝ }
 {

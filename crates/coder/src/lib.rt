@@ -1,6 +1,8 @@
 // The public face for blocks: each entry answers every length, byte value and number (01, The bench and its edges).
 mod block;
 mod sacch;
+mod speech;
+
 ghost use mathlib.Core.Bool.{true};
 ghost use mathlib.Core.Path.{_≡_};
 ghost use Prim.Native.Nat.{ℕ};
@@ -54,6 +56,17 @@ fn judge(d: &[u8], reads: usize, out: usize, writes: usize, identity: u8) -> Sen
         return Sent::Refused(Refusal::Identity);
     }
     Sent::Done
+}
+
+// Speech block: 260 bits to 456.
+pub fn send_speech(d: &[u8], c: &mut [u8]) -> Sent
+    ensures { λ r. ⌜ Meets (speechSent (now (d .entry)) (now (c .entry))) r (now (c .exit)) ⌝ }
+{
+    let told = judge(d, 260, c.len(), 456, 0);
+    if let Sent::Done = told {
+        speech::code(d, c);
+    }
+    told
 }
 
 // Control block (SACCH and FACCH): 184 bits to 456.

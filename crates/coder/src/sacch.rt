@@ -5,7 +5,7 @@ ghost use Rattle.bits.specs.Bits.{Bits};
 ghost use Rattle.coder.specs.Blocks.{sacchMessage};
 
 // The control block of d, its even and odd places alike, with all flags 1.
-pub fn spread(d: &[u8], e: &mut [u8])
+pub(crate) fn spread(d: &[u8], e: &mut [u8])
     requires { ⌜ (Bits (now d)) × (length (now d) ≡ 184) × (length (now e) ≡ 464) ⌝ }
     ensures { λ _. ⌜ now (e .exit) ≡ sacchMessage (now (d .entry)) ⌝ }
 {

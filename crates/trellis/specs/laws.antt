@@ -1,3 +1,7 @@
 pub mod Pairs
 pub mod Linear
 pub mod Table
+pub mod Paths
+pub mod Candidates
+pub mod Nearest
+pub mod Distance

@@ -31,6 +31,12 @@ put-four k e w x y z le lw lx ly =
     ∙ append-nil (((w ++ x) ++ y) ++ z)
     ∙ simp append-assoc
 
+-- two parts, up to a and up to the end, of i and k bytes
+pub put-two : (e w x : List ℕ) (i k a : ℕ) → length w ≡ a → i ≡ a → length e ≡ a + k → put a k x (put 0 i w e) ≡ w ++ x
+put-two e w x i k a lw ei le =
+    let n : drop k (drop i e) ≡ [] = drop-of-length-le (drop i e) {i = k} (simp length-drop (omega (arith, le))) in
+    put-next w (drop i e) x a k lw ∙ ap (λ (l : List ℕ). (w ++ x) ++ l) n ∙ append-nil (w ++ x)
+
 -- three parts, up to a, up to b and up to the end, of i, j and k bytes
 pub put-three : (e w x y : List ℕ) (i j k a b : ℕ) → length w ≡ a → i ≡ a → length x ≡ j → a + j ≡ b → length e ≡ b + k
     → put b k y (put a j x (put 0 i w e)) ≡ w ++ (x ++ y)

@@ -4,7 +4,7 @@ use mathlib.Core.Path.{_≡_, refl, sym, ap, ap₂, _∙_}
 use Prim.Native.Nat.{ℕ, zero, suc, _+_, _%_, _≤_, _<_}
 use native.Mathlib.Nat.{not-suc-le-zero, le-of-suc-le-suc}
 use native.Mathlib.Omega.{arith}
-use lib.ListN.{length, getD, replicate, length-replicate, getD-replicate}
+use lib.ListN.{length, getD, take, drop, replicate, length-replicate, getD-replicate}
 use Rattle.bits.specs.Bits.{Bits, sum, add, zeros, ones}
 
 -- ---- sums of bits
@@ -46,6 +46,12 @@ bits-cons a w h bw (suc k) = bw k
 pub bits-append : (v w : List ℕ) → Bits v → Bits w → Bits (v ++ w)
 bits-append [] w bv bw = bw
 bits-append (a ∷ v) w bv bw = bits-cons a (v ++ w) (bv 0) (bits-append v w (λ k. bv (suc k)) bw)
+
+pub bits-take : (n : ℕ) (w : List ℕ) → Bits w → Bits (take n w)
+bits-take zero w bw k = omega arith
+bits-take (suc n) [] bw k = bw k
+bits-take (suc n) (b ∷ w) bw zero = bw 0
+bits-take (suc n) (b ∷ w) bw (suc k) = bits-take n w (λ i. bw (suc i)) k
 
 -- ---- add
 pub length-add : (s w : List ℕ) → length (add s w) ≡ length w
@@ -111,3 +117,25 @@ at-add [] w k h l = absurd (not-suc-le-zero h)
 at-add (a ∷ s) [] k h l = absurd (not-suc-le-zero l)
 at-add (a ∷ s) (b ∷ w) zero h l = refl
 at-add (a ∷ s) (b ∷ w) (suc k) h l = at-add s w k (le-of-suc-le-suc h) (le-of-suc-le-suc l)
+
+pub add-nothing : (n : ℕ) (w : List ℕ) → length w ≡ n → Bits w → add w (zeros n) ≡ w
+unfolding add zeros
+add-nothing zero [] e bw = refl
+add-nothing zero (b ∷ w) e bw = let z : ⊥ = omega (arith, e) in absurd z
+add-nothing (suc n) [] e bw = let z : ⊥ = omega (arith, e) in absurd z
+add-nothing (suc n) (b ∷ w) e bw =
+    let h : b ≤ 1 = bw 0 in
+    let f : sum b 0 ≡ b = omega arith in
+    ap₂ (λ (x : ℕ) (l : List ℕ). x ∷ l) f (add-nothing n w (omega (arith, e)) (λ k. bw (suc k)))
+
+pub drop-add : (k : ℕ) (s w : List ℕ) → length s ≡ length w → drop k (add s w) ≡ add (drop k s) (drop k w)
+unfolding add
+drop-add zero s w e = refl
+drop-add (suc k) [] [] e = refl
+drop-add (suc k) [] (b ∷ w) e = let z : ⊥ = omega (arith, e) in absurd z
+drop-add (suc k) (a ∷ s) [] e = let z : ⊥ = omega (arith, e) in absurd z
+drop-add (suc k) (a ∷ s) (b ∷ w) e = drop-add k s w (omega (arith, e))
+
+-- two lists whose sum is nothing are one
+pub sum-nothing : (n : ℕ) (v w : List ℕ) → length v ≡ n → Bits v → Bits w → add v w ≡ zeros n → v ≡ w
+sum-nothing n v w l bv bw e = sym (add-nothing n v l bv) ∙ ap (λ (x : List ℕ). add v x) (sym e) ∙ add-twice v w bw

@@ -8,10 +8,11 @@ use native.Mathlib.Nat.{add-zero, zero-add, add-suc, suc-add, le-of-suc-le-suc, 
 use native.Mathlib.Numerals.{add-one}
 use native.Mathlib.Omega.{arith}
 use lib.Dec.{T}
-use lib.ListN.{length, getD, set, length-set, length-append, List·getD-append}
+use lib.ListN.{length, getD, set, length-set, length-append, List·getD-append, List·getD-eq-default}
 use lib.Seq.{ext-getD, getD-set-same, getD-set-other, getD-append-add}
 use borrow.Author.Count.{below-more}
-use Rattle.bits.specs.Bits.{tab, tabFrom, both, allBelow}
+use Rattle.bits.specs.Bits.{Bits, tab, tabFrom, both, allBelow}
+use Rattle.bits.specs.laws.Cases.{lt-or-le}
 
 -- ---- one computed test over a range gives the rule at each number
 pub both-left : (a b : Bool) → T (both a b) → T a
@@ -56,6 +57,12 @@ is-tab n f xs l h =
 
 pub tab-same : (n : ℕ) (f g : ℕ → ℕ) → ((k : ℕ) → k < n → f k ≡ g k) → tab n f ≡ tab n g
 tab-same n f g h = is-tab n g (tab n f) (length-tab n f) (λ k lt. at-tab n f k lt ∙ h k lt)
+
+pub bits-tab : (n : ℕ) (f : ℕ → ℕ) → ((k : ℕ) → f k ≤ 1) → Bits (tab n f)
+bits-tab n f h k =
+    ⊎-elim (λ (l : k < n). rw (at-tab n f k l) (h k))
+    (λ (l : n ≤ k). rw (List·getD-eq-default (tab n f) 0 {n = k} (rw (length-tab n f) l)) (omega arith))
+    (lt-or-le k n)
 
 -- ---- a loop that fills out[x] = f x for rising x, up to n: its invariant, its start, its turn and its end
 abbrev pub Filled : (ℕ → ℕ) → ℕ → ℕ → List ℕ → Type 0

@@ -1,5 +1,5 @@
 -- `coder::send_access` is right: where every test holds, the access burst is written; else the buffer stands as before.
-use mathlib.Core.Path.{refl, _∙_}
+use mathlib.Core.Path.{refl}
 use borrow.Author.Needs.{needs}
 use lib.Dec.{lit<, lit≤}
 use Rattle.coder.specs.laws.Blocks.{access-is}
@@ -25,7 +25,7 @@ returns c =
     let told = c .before .before .before .before .enum-told .given .1 in
     let ready = done-ready (s .d .now) (s .e .now) 8 36 (s .identity) (j .result) (j .ensures) told in
     let written = c .before .before .code in
-    entry-done 8 36 (s .identity) (s .d .now) (accessBurst (s .identity) (s .d .now)) (s .e .now) (j .result) (j .ensures) (written .last .1 .1 .1 .1 .0) told (written .ensures ∙ access-is (s .d .now) (ready .bits) (s .identity) (ready .identity))
+    entry-done 8 36 (s .identity) (s .d .now) (accessBurst (s .identity) (s .d .now)) (s .e .now) (j .result) (j .ensures) (written .last .1 .1 .1 .1 .0) told (access-is (s .d .now) (ready .bits) (s .identity) (ready .identity) (written .last .1 .1 .1 .1 .0) (written .ensures))
 
 returns-2 : tie.Need-returns-2
 unfolding accessSent

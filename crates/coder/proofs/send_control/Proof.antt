@@ -1,5 +1,5 @@
 -- `coder::send_control` is right: where every test holds, the control block is written; else the buffer stands as before.
-use mathlib.Core.Path.{refl, _∙_}
+use mathlib.Core.Path.{refl}
 use borrow.Author.Needs.{needs}
 use lib.Dec.{lit<, lit≤}
 use Rattle.coder.specs.laws.Blocks.{control-is}
@@ -25,7 +25,7 @@ returns c =
     let told = c .before .before .before .before .enum-told .given .1 in
     let ready = done-ready (s .d .now) (s .c .now) 184 456 0 (j .result) (j .ensures) told in
     let written = c .before .before .code in
-    entry-done 184 456 0 (s .d .now) (controlBlock (s .d .now)) (s .c .now) (j .result) (j .ensures) (written .last .1 .1 .1 .1 .0) told (written .ensures ∙ control-is (s .d .now) (ready .bits))
+    entry-done 184 456 0 (s .d .now) (controlBlock (s .d .now)) (s .c .now) (j .result) (j .ensures) (written .last .1 .1 .1 .1 .0) told (control-is (s .d .now) (ready .bits) (written .last .1 .1 .1 .1 .0) (written .ensures))
 
 returns-2 : tie.Need-returns-2
 unfolding controlSent

@@ -47,7 +47,7 @@ done-ready d c n m i r e f =
       reads = eqb-true (length d) n (both-first (eqb (length d) n) (eqb (length c) m) (h .lengths));
       writes = eqb-true (length c) m (both-second (eqb (length d) n) (eqb (length c) m) (h .lengths));
       bits = all-bits d (h .bits);
-      identity = leb-true i 63 (h .identity)
+      identity = leb-true i 63 (h .identity);
     }
 
 -- ---- the two ways in which an entry ends

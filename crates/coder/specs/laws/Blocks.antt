@@ -14,22 +14,22 @@ use Rattle.coder.specs.Blocks.{controlU, controlBlock, colour, accessU, 
 use Rattle.coder.specs.laws.Protected.{digits-plain, digits-coloured}
 
 module _ (d : List ℕ) (bd : Bits d) where
-  pub control-is : coded (d ++ (digits 40 (bitXor (value (parity (digits 40 0x4820009) d)) 0) ++ zeros 4)) ≡ controlBlock d
+  pub control-is : (c : List ℕ) → c ≡ coded (d ++ (digits 40 (bitXor (value (parity (digits 40 0x4820009) d)) 0) ++ zeros 4)) → c ≡ controlBlock d
   unfolding controlBlock controlU
-  control-is =
-      ap (λ (p : List ℕ). coded (d ++ (p ++ zeros 4)))
+  control-is c e =
+      e ∙ ap (λ (p : List ℕ). coded (d ++ (p ++ zeros 4)))
       (digits-plain (digits 40 0x4820009) d bd 40 (length-digits 40 0x4820009) ∙ ap (λ (g : List ℕ). parity g d) control-number)
 
-  pub sch-is : coded (d ++ (digits 10 (bitXor (value (parity (digits 10 0b0101110101) d)) 0) ++ zeros 4)) ≡ schBurst d
+  pub sch-is : (c : List ℕ) → c ≡ coded (d ++ (digits 10 (bitXor (value (parity (digits 10 0b0101110101) d)) 0) ++ zeros 4)) → c ≡ schBurst d
   unfolding schBurst schU
-  sch-is =
-      ap (λ (p : List ℕ). coded (d ++ (p ++ zeros 4)))
+  sch-is c e =
+      e ∙ ap (λ (p : List ℕ). coded (d ++ (p ++ zeros 4)))
       (digits-plain (digits 10 0b0101110101) d bd 10 (length-digits 10 0b0101110101) ∙ ap (λ (g : List ℕ). parity g d) sch-number)
 
-  pub access-is : (i : ℕ) → i ≤ 63 → coded (d ++ (digits 6 (bitXor (value (parity (digits 6 0b101111) d)) i) ++ zeros 4)) ≡ accessBurst i d
+  pub access-is : (i : ℕ) → i ≤ 63 → (c : List ℕ) → c ≡ coded (d ++ (digits 6 (bitXor (value (parity (digits 6 0b101111) d)) i) ++ zeros 4)) → c ≡ accessBurst i d
   unfolding accessBurst accessU colour
-  access-is i h =
+  access-is i h c e =
       let l : i < 2 ^ 6 = omega arith in
-      ap (λ (p : List ℕ). coded (d ++ (p ++ zeros 4)))
+      e ∙ ap (λ (p : List ℕ). coded (d ++ (p ++ zeros 4)))
       (digits-coloured (digits 6 0b101111) d bd 6 (length-digits 6 0b101111) i l
       ∙ ap (λ (g : List ℕ). add (parity g d) (digits 6 i)) access-number)

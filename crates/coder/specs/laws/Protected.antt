@@ -34,13 +34,13 @@ pub record Codable (generator degree : ℕ) (d c : List ℕ) : Type 0 where
 -- an entry that is ready may code, where its two lengths fit the degree
 pub codable : {d c : List ℕ} {n m i g : ℕ} (r : ℕ) → 0 < r → r ≤ 62 → g < 2 ^ r → n + r + 4 ≤ 228 → m ≡ 2 * (n + r + 4) → Ready d c n m i → Codable g r d c
 codable r some narrow below short long ready = record {
-    some = some;
-    narrow = narrow;
-    below = below;
-    bits = ready .bits;
-    short = omega (arith, ready .reads);
-    long = ready .writes ∙ long ∙ ap (λ (k : ℕ). 2 * (k + r + 4)) (sym (ready .reads))
-  }
+  some = some;
+  narrow = narrow;
+  below = below;
+  bits = ready .bits;
+  short = omega (arith, ready .reads);
+  long = ready .writes ∙ long ∙ ap (λ (k : ℕ). 2 * (k + r + 4)) (sym (ready .reads));
+}
 
 -- ---- d, ones and zeros, laid into u part by part
 pub laid : (d u w o z : List ℕ) (m : ℕ) → length d ≤ m → m ≤ length u → w ≡ d
@@ -93,12 +93,12 @@ module _ (g r c : ℕ) (d u v : List ℕ) (asked : Protectable g r d u)
 
   pub front-divisible : Divisible g r (take (length d + r - 0) v)
   front-divisible = record {
-      some = asked .some;
-      narrow = asked .narrow;
-      below = asked .below;
-      long = rw (front, length-append d (ones r), length-ones r) (omega arith);
-      bits = rw front (bits-append d (ones r) (asked .bits) (bits-ones r))
-    }
+    some = asked .some;
+    narrow = asked .narrow;
+    below = asked .below;
+    long = rw (front, length-append d (ones r), length-ones r) (omega arith);
+    bits = rw front (bits-append d (ones r) (asked .bits) (bits-ones r));
+  }
 
   pub protected : (p : ℕ) (q : List ℕ) → p ≡ value (remainder (digits r g) (take (length d + r - 0) v))
       → q ≡ digits (length (take (length d + r - length d) (drop (length d) v))) (bitXor p c)
@@ -109,7 +109,7 @@ module _ (g r c : ℕ) (d u v : List ℕ) (asked : Protectable g r d u)
       let a : n + r - n ≡ r = omega arith in
       let lv : length v ≡ n + (r + 4) = ap length shape ∙ rw (length-append d (ones r ++ zeros 4), length-append (ones r) (zeros 4), length-ones r, length-zeros 4) in
       let fp : p ≡ value (remainder (digits r g) (d ++ ones (length (digits r g)))) =
-          ep ∙ ap (λ (w : List ℕ). value (remainder (digits r g) w)) (front ∙ ap (λ (k : ℕ). d ++ ones k) (sym (length-digits r g))) in
+      ep ∙ ap (λ (w : List ℕ). value (remainder (digits r g) w)) (front ∙ ap (λ (k : ℕ). d ++ ones k) (sym (length-digits r g))) in
       let fq : q ≡ digits r (bitXor p c) = eq ∙ ap (λ (k : ℕ). digits k (bitXor p c)) (length-lent v n (n + r - n) (omega (arith, lv)) ∙ a) in
       ap (put n (n + r - n) q) shape
       ∙ put-middle d (ones r) (zeros 4) q n (n + r - n) refl (length-ones r ∙ sym a)
@@ -117,8 +117,11 @@ module _ (g r c : ℕ) (d u v : List ℕ) (asked : Protectable g r d u)
 
 -- ---- u is bits, and as long as it should be
 module _ (d : List ℕ) (r x : ℕ) where
-  pub bits-u : Bits d → Bits (d ++ (digits r x ++ zeros 4))
+  bits-u : Bits d → Bits (d ++ (digits r x ++ zeros 4))
   bits-u bd = bits-append d (digits r x ++ zeros 4) bd (bits-append (digits r x) (zeros 4) (bits-digits r x) (bits-zeros 4))
 
-  pub length-u : length (d ++ (digits r x ++ zeros 4)) ≡ length d + r + 4
+  length-u : length (d ++ (digits r x ++ zeros 4)) ≡ length d + r + 4
   length-u = rw (length-append d (digits r x ++ zeros 4), length-append (digits r x) (zeros 4), length-digits r x, length-zeros 4) (omega arith)
+
+  pub coded-asked : (u c : List ℕ) → Bits d → length c ≡ 2 * (length d + r + 4) → u ≡ d ++ (digits r x ++ zeros 4) → Bits u × (length c ≡ 2 * length u)
+  coded-asked u c bd lc e = (rw e (bits-u bd), lc ∙ ap (λ (n : ℕ). 2 * n) (sym (ap length e ∙ length-u)))

@@ -54,8 +54,8 @@ module _ (u v : List ℕ) (e : length u ≡ length v) where
       rw (back-sum k 0 h, back-sum k 1 h, back-sum k 3 h, back-sum k 4 h)
       (four (back u k 0) (back u k 1) (back u k 3) (back u k 4) (back v k 0) (back v k 1) (back v k 3) (back v k 4))
 
-  at-sum : (i : ℕ) → i < 2 * length u → codedAt (add u v) i ≡ sum (codedAt u i) (codedAt v i)
-  at-sum i h =
+  pub codedAt-sum : (i : ℕ) → i < 2 * length u → codedAt (add u v) i ≡ sum (codedAt u i) (codedAt v i)
+  codedAt-sum i h =
       ⊎-elim (λ (l : i % 2 < 1).
       let k : i ≡ 2 * (i / 2) = omega arith in
       subst (λ (n : ℕ). codedAt (add u v) n ≡ sum (codedAt u n) (codedAt v n)) (sym k)
@@ -76,4 +76,4 @@ module _ (u v : List ℕ) (e : length u ≡ length v) where
       (sym (is-tab n (codedAt (add u v)) (add (tab n (codedAt u)) (tab n (codedAt v))) l
       (λ i h.
       at-add (tab n (codedAt u)) (tab n (codedAt v)) i (rw (length-tab n (codedAt u)) h) (rw (length-tab n (codedAt v)) h)
-      ∙ rw (at-tab n (codedAt u) i h, at-tab n (codedAt v) i h) (sym (at-sum i h)))))
+      ∙ rw (at-tab n (codedAt u) i h, at-tab n (codedAt v) i h) (sym (codedAt-sum i h)))))

@@ -5,12 +5,13 @@ use mathlib.Core.Logic.{⊎-elim}
 use mathlib.Core.Path.{_≡_, refl, sym, ap, ap₂, _∙_}
 use Prim.Native.Nat.{ℕ, zero, suc, _+_, _-_, _*_, _/_, _%_, _≤_, _<_}
 use native.Mathlib.Omega.{arith}
-use lib.Dec.{ltb}
+use lib.Dec.{ltb, eqb}
 use lib.ListN.{length, getD}
 use borrow.Author.Tests.{lt-ltb, le-ltb, eq-eqb, ne-eqb}
 use Rattle.bits.specs.Bits.{Bits, pick}
 use Rattle.bits.specs.laws.Cases.{lt-or-le}
-use Rattle.trellis.specs.Pairs.{back, first, second, codedAt, stateAt, pairOf}
+use Rattle.bits.specs.laws.Tab.{length-tab}
+use Rattle.trellis.specs.Pairs.{back, first, second, codedAt, coded, stateAt, pairOf}
 
 -- ---- what stands j places back
 pub back-early : (u : List ℕ) (k j : ℕ) → k < j → back u k j ≡ 0
@@ -38,6 +39,10 @@ back-bit u bu k j =
     (λ (h : j ≤ k). rw (back-late u k j h) (bu (k - j)))
     (lt-or-le k j)
 
+pub length-coded : (u : List ℕ) → length (coded u) ≡ 2 * length u
+unfolding coded
+length-coded u = length-tab (2 * length u) (codedAt u)
+
 -- ---- 01's two formulas, by the index
 pub coded-even : (u : List ℕ) (k : ℕ) → codedAt u (2 * k) ≡ first u k
 unfolding codedAt
@@ -59,6 +64,14 @@ first-lt u k = omega arith
 second-lt : (u : List ℕ) (k : ℕ) → second u k < 2
 unfolding second
 second-lt u k = omega arith
+
+pub codedAt-bit : (u : List ℕ) (i : ℕ) → codedAt u i ≤ 1
+unfolding codedAt
+codedAt-bit u i = either (eqb (i % 2) 0)
+  where
+    either : (t : Bool) → pick t (first u (i / 2)) (second u (i / 2)) ≤ 1
+    either true = omega (arith, first-lt u (i / 2))
+    either false = omega (arith, second-lt u (i / 2))
 
 -- ---- the state
 pub state-start : (u : List ℕ) → stateAt u 0 ≡ 0

@@ -1,14 +1,11 @@
 -- `coder::block::code_over` is right: what `protect` lays out is bits, of half the length of c, and is coded.
-use mathlib.Core.Path.{_≡_, sym, ap, _∙_}
-use mathlib.Core.List.{List, _++_}
-use Prim.Native.Nat.{ℕ, _+_, _*_}
+use mathlib.Core.Path.{ap, _∙_}
 use borrow.Author.Needs.{needs}
 use lib.Bits.{bitXor}
-use lib.ListN.{length}
 use Rattle.bits.specs.Bits.{digits, value}
 use Rattle.parity.specs.Division.{parity}
 use Rattle.trellis.specs.Pairs.{coded}
-use Rattle.coder.specs.laws.Protected.{bits-u, length-u}
+use Rattle.coder.specs.laws.Protected.{coded-asked}
 use Rattle.coder.proofs.block.code_over.Statement.{statement}
 use Rattle.coder.proofs.block.code_over.Tie as tie
 
@@ -19,7 +16,7 @@ code-requires c κs =
     let d = start .args .d .now in
     let r = start .args .degree in
     let x = bitXor (value (parity (digits r (start .args .generator)) d)) (start .args .colour) in
-    (rw e (bits-u d r x (start .pre .0 .bits)), start .pre .0 .long ∙ ap (λ (n : ℕ). 2 * n) (sym (ap length e ∙ length-u d r x)))
+    coded-asked d r x (c .before .before .before .before .protect .last .1 .1 .1 .1 .0) (start .args .c .now) (start .pre .0 .bits) (start .pre .0 .long) e
 
 returns : tie.Need-returns
 returns c = c .before .before .code .ensures ∙ ap coded (c .before .before .before .before .before .before .before .protect .ensures)

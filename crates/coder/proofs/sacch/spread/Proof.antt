@@ -1,20 +1,24 @@
 -- `coder::sacch::spread` is right: the control block is spread over both halves of each burst.
 use mathlib.Core.List.{List}
-use mathlib.Core.Path.{ap, _∙_}
+use mathlib.Core.Path.{_≡_, ap, _∙_}
 use Prim.Native.Nat.{ℕ}
 use borrow.Author.Needs.{needs}
 use Rattle.burst.specs.Places.{four}
-use Rattle.coder.specs.Blocks.{sacchMessage}
+use Rattle.coder.specs.Blocks.{controlBlock, sacchMessage}
 use Rattle.coder.specs.laws.Blocks.{control-is}
 use Rattle.coder.proofs.sacch.spread.Statement.{statement}
 use Rattle.coder.proofs.sacch.spread.Tie as tie
 
-returns : tie.Need-returns
+spread-is : (d c e : List ℕ) → c ≡ controlBlock d → e ≡ four c 1 c 1 → e ≡ sacchMessage d
 unfolding sacchMessage
+spread-is d c e f g = g ∙ ap (λ (l : List ℕ). four l 1 l 1) f
+
+returns : tie.Need-returns
 returns c =
     let start = c .before .before .before .before .before .before .before .before .before .before .before in
-    c .before .before .fill-four .ensures
-    ∙ ap (λ (l : List ℕ). four l 1 l 1) (c .before .before .before .before .before .before .before .code .ensures ∙ control-is (start .args .d .now) (start .pre .0))
+    let coded = c .before .before .before .before .before .before .before .code in
+    spread-is (start .args .d .now) (coded .last .1 .1 .1 .1 .0) (c .before .before .fill-four .last .1 .1 .1 .1 .0)
+    (control-is (start .args .d .now) (start .pre .0) (coded .last .1 .1 .1 .1 .0) (coded .ensures)) (c .before .before .fill-four .ensures)
 
 pub spread-spec : {M : Type 1} → statement M
 spread-spec =

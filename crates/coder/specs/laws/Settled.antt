@@ -1,0 +1,28 @@
+-- Each sending entry's contract settles its result and every byte of the lent buffer: two that it allows are equal.
+use mathlib.Core.List.{List}
+use mathlib.Core.Path.{_≡_}
+use Prim.Native.Nat.{ℕ}
+use Rattle.coder.specs.Answers.{Answer, Meets}
+use Rattle.coder.specs.Entries.{speechSent, controlSent, sacchSent, accessSent, schSent}
+use Rattle.coder.specs.laws.Answers.{meets-once}
+use Rattle.coder.specs.declared.Sent.{Sent}
+
+-- at most one result, and one content of the buffer, meets the answer a
+abbrev pub Settled : Answer → Type 0
+Settled a = (r s : Sent) (x y : List ℕ) → Meets a r x → Meets a s y → (r ≡ s) × (x ≡ y)
+
+module _ (identity : ℕ) (d c : List ℕ) where
+  pub speech-settled : Settled (speechSent d c)
+  speech-settled = meets-once (speechSent d c)
+
+  pub control-settled : Settled (controlSent d c)
+  control-settled = meets-once (controlSent d c)
+
+  pub sacch-settled : Settled (sacchSent d c)
+  sacch-settled = meets-once (sacchSent d c)
+
+  pub access-settled : Settled (accessSent identity d c)
+  access-settled = meets-once (accessSent identity d c)
+
+  pub sch-settled : Settled (schSent d c)
+  sch-settled = meets-once (schSent d c)

@@ -1,0 +1,89 @@
+// The answer of each verb to its arguments.
+use crate::fields::Number;
+use crate::fields::read_number;
+use coder::Sent;
+use text::put_bits;
+use text::put_byte;
+use text::put_refused;
+ghost use Prim.Native.Nat.{_≤_};
+ghost use mathlib.Core.Path.{_≡_};
+ghost use lib.ListN.{length};
+
+// speech D
+pub fn speech(d: &[u8], out: &mut [u8]) -> usize
+    requires { ⌜ 1000 ≤ length (now out) ⌝ }
+    ensures { λ r. ⌜ r ≤ 1000 ⌝ }
+{
+    let mut c = [0u8; 456];
+    let sent = coder::send_speech(d, &mut c);
+    put_sent(out, sent, &c)
+}
+
+// control D
+pub fn control(d: &[u8], out: &mut [u8]) -> usize
+    requires { ⌜ 1000 ≤ length (now out) ⌝ }
+    ensures { λ r. ⌜ r ≤ 1000 ⌝ }
+{
+    let mut c = [0u8; 456];
+    let sent = coder::send_control(d, &mut c);
+    put_sent(out, sent, &c)
+}
+
+// sacch D
+pub fn sacch(d: &[u8], out: &mut [u8]) -> usize
+    requires { ⌜ 1000 ≤ length (now out) ⌝ }
+    ensures { λ r. ⌜ r ≤ 1000 ⌝ }
+{
+    let mut e = [0u8; 464];
+    let sent = coder::send_sacch(d, &mut e);
+    put_sent(out, sent, &e)
+}
+
+// access ID D
+pub fn access(id: &[u8], d: &[u8], out: &mut [u8]) -> usize
+    requires { ⌜ 1000 ≤ length (now out) ⌝ }
+    ensures { λ r. ⌜ r ≤ 1000 ⌝ }
+{
+    match read_number(id) {
+        Number::Bad => put_unknown(out),
+        Number::Is(number) => {
+            let mut e = [0u8; 36];
+            let sent = coder::send_access(identity(number), d, &mut e);
+            put_sent(out, sent, &e)
+        }
+    }
+}
+
+// An identity over 63 is refused, so one that no byte holds may as well be 255.
+fn identity(number: u16) -> u8 {
+    if number > 255 { 255 } else { number as u8 }
+}
+
+// sch D
+pub fn sch(d: &[u8], out: &mut [u8]) -> usize
+    requires { ⌜ 1000 ≤ length (now out) ⌝ }
+    ensures { λ r. ⌜ r ≤ 1000 ⌝ }
+{
+    let mut e = [0u8; 78];
+    let sent = coder::send_sch(d, &mut e);
+    put_sent(out, sent, &e)
+}
+
+// The coded bits, or the refusal.
+fn put_sent(out: &mut [u8], sent: Sent, coded: &[u8]) -> usize
+    requires { ⌜ (length (now coded) ≤ 1000) × (1000 ≤ length (now out)) ⌝ }
+    ensures { λ r. ⌜ r ≤ 1000 ⌝ }
+{
+    match sent {
+        Sent::Done => put_bits(out, 0, coded),
+        Sent::Refused(refusal) => put_refused(out, 0, coder::number(refusal)),
+    }
+}
+
+// The answer to a line that is none.
+pub fn put_unknown(out: &mut [u8]) -> usize
+    requires { ⌜ 1 ≤ length (now out) ⌝ }
+    ensures { λ r. ⌜ r ≡ 1 ⌝ }
+{
+    put_byte(out, 0, b'?')
+}

@@ -1,0 +1,70 @@
+// The fields of a line, exactly what stands between its spaces, and the number that one may be.
+use text::digit;
+use text::find;
+ghost use Prim.Native.Nat.{_≤_};
+ghost use lib.ListN.{length};
+
+// One to five digits, at most 65535; or anything else.
+pub enum Number {
+    Is(u16),
+    Bad,
+}
+
+// How many fields a line has: one more than its spaces.
+pub fn fields(line: &[u8]) -> usize {
+    let mut n = 1;
+    for i in 0..line.len() {
+        if line[i] == b' ' {
+            n += 1;
+        }
+    }
+    n
+}
+
+// Field k of a line, from 0; where there is none, nothing.
+pub fn field(line: &[u8], k: usize) -> &[u8]
+    ensures { λ r. ⌜ length (now r) ≤ length (now (line .entry)) ⌝ }
+{
+    let start = start_of(line, k);
+    let end = find(line, start, b' ');
+    &line[start..end]
+}
+
+// The place after k spaces, or the line's end.
+fn start_of(line: &[u8], k: usize) -> usize
+    ensures { λ r. ⌜ r ≤ length (now (line .entry)) ⌝ }
+{
+    let mut left = k;
+    let mut at = 0;
+    while at < line.len() {
+        if left == 0 {
+            return at;
+        }
+        if line[at] == b' ' {
+            left -= 1;
+        }
+        at += 1;
+    }
+    at
+}
+
+pub fn read_number(characters: &[u8]) -> Number {
+    if characters.len() == 0 {
+        return Number::Bad;
+    }
+    if characters.len() > 5 {
+        return Number::Bad;
+    }
+    let mut number: u32 = 0;
+    for k in 0..characters.len() {
+        let d = digit(characters[k]);
+        if d > 9 {
+            return Number::Bad;
+        }
+        number = 10 * number + d as u32;
+        if number > 65535 {
+            return Number::Bad;
+        }
+    }
+    Number::Is(number as u16)
+}

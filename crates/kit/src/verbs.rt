@@ -1,0 +1,94 @@
+// From a line to its answer: the word names a verb, the verb says how many arguments there are.
+use crate::answers::access;
+use crate::answers::control;
+use crate::answers::put_unknown;
+use crate::answers::sacch;
+use crate::answers::sch;
+use crate::answers::speech;
+use crate::fields::field;
+use crate::fields::fields;
+use text::read_bits;
+ghost use Prim.Native.Nat.{_≤_};
+ghost use lib.ListN.{length};
+
+enum Verb {
+    Speech,
+    Control,
+    Sacch,
+    Access,
+    Sch,
+    Unknown,
+}
+
+// The verb of each word.
+fn verb_of(word: &[u8]) -> Verb {
+    if same(word, b"speech") {
+        return Verb::Speech;
+    }
+    if same(word, b"control") {
+        return Verb::Control;
+    }
+    if same(word, b"sacch") {
+        return Verb::Sacch;
+    }
+    if same(word, b"access") {
+        return Verb::Access;
+    }
+    if same(word, b"sch") {
+        return Verb::Sch;
+    }
+    Verb::Unknown
+}
+
+// How many arguments a verb takes.
+fn arguments(verb: Verb) -> usize
+    ensures { λ r. ⌜ r ≤ 9 ⌝ }
+{
+    match verb {
+        Verb::Speech => 1,
+        Verb::Control => 1,
+        Verb::Sacch => 1,
+        Verb::Access => 2,
+        Verb::Sch => 1,
+        Verb::Unknown => 0,
+    }
+}
+
+// The answer to a line, without its newline.
+pub fn answer(line: &[u8], out: &mut [u8]) -> usize
+    requires { ⌜ 1000 ≤ length (now out) ⌝ }
+    ensures { λ r. ⌜ r ≤ 1000 ⌝ }
+{
+    if line.len() > 1000 {
+        return put_unknown(out);
+    }
+    let verb = verb_of(field(line, 0));
+    let last = arguments(verb);
+    if fields(line) != last + 1 {
+        return put_unknown(out);
+    }
+    // the last argument is the one that is bits
+    let mut d = [0u8; 1000];
+    let n = read_bits(field(line, last), &mut d);
+    let bits = &d[0..n];
+    match verb {
+        Verb::Speech => speech(bits, out),
+        Verb::Control => control(bits, out),
+        Verb::Sacch => sacch(bits, out),
+        Verb::Access => access(field(line, 1), bits, out),
+        Verb::Sch => sch(bits, out),
+        Verb::Unknown => put_unknown(out),
+    }
+}
+
+fn same(a: &[u8], b: &[u8]) -> bool {
+    if a.len() != b.len() {
+        return false;
+    }
+    for i in 0..a.len() {
+        if a[i] != b[i] {
+            return false;
+        }
+    }
+    true
+}

@@ -1,0 +1,3 @@
+pub mod Steps
+pub mod Nearest
+pub mod Distance

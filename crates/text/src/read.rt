@@ -1,0 +1,41 @@
+// Small readers: a byte is found, and characters are read as bits.
+ghost use Prim.Native.Nat.{_≤_};
+ghost use mathlib.Core.Path.{_≡_};
+ghost use lib.ListN.{length};
+
+// Where the byte next stands from `at` on, or the end.
+pub fn find(bytes: &[u8], at: usize, byte: u8) -> usize
+    requires { ⌜ at ≤ length (now bytes) ⌝ }
+    ensures { λ r. ⌜ (at ≤ r) × (r ≤ length (now (bytes .entry))) ⌝ }
+{
+    let mut i = at;
+    while i < bytes.len() {
+        if bytes[i] == byte {
+            return i;
+        }
+        i += 1;
+    }
+    i
+}
+
+// The bits of a text, a byte for each character, and how many there are.
+pub fn read_bits(text: &[u8], d: &mut [u8]) -> usize
+    requires { ⌜ length (now text) ≤ length (now d) ⌝ }
+    ensures { λ r. ⌜ r ≡ length (now (text .entry)) ⌝ }
+{
+    for k in 0..text.len() {
+        d[k] = digit(text[k]);
+    }
+    text.len()
+}
+
+// '0' to '9' are the bytes 0 to 9; any other character is 255, so that it is refused as a bit.
+pub fn digit(character: u8) -> u8 {
+    if character < b'0' {
+        return 255;
+    }
+    if character > b'9' {
+        return 255;
+    }
+    character - b'0'
+}
