@@ -1,4 +1,9 @@
-// The convolutional code: the printed table of pairs, and coding over it (000, 3.1.2.2).
+// The convolutional code: the printed table of pairs, coding over it (000, 3.1.2.2), and the nearest block (01, What the decoder answers).
+mod search;
+mod steps;
+
+pub use search::nearest;
+pub use search::view;
 ghost use mathlib.Core.Path.{_≡_};
 ghost use Prim.Native.Nat.{_*_, _≤_, _<_};
 ghost use lib.ListN.{length};
