@@ -29,9 +29,26 @@ pub fn map_on_burst(i: &[u8], hl: u8, hu: u8) -> Vec<u8> {
     e
 }
 
+/// i(B, j) for j = 0..113, read back from e(B); the flags are left out
+pub fn places(e: &[u8]) -> Vec<u8> {
+    [&e[..57], &e[59..116]].concat()
+}
+
+/// c(k) = i(B, j) for k = 0..455: each coded bit is fetched from its burst and place.
+pub fn gather(bursts: &[Vec<u8>]) -> Vec<u8> {
+    let mut c = vec![0; 456];
+    for k in 0..=455 {
+        let (burst, place) = burst_and_place(k, bursts.len());
+        c[k] = bursts[burst][place];
+    }
+    c
+}
+
 #[cfg(test)]
 mod tests {
     use super::*;
+    use crate::lists::random_bits;
+    use crate::random::Random;
 
     /// The index in e to which a place is mapped.
     fn mapped(place: usize) -> usize {
@@ -90,5 +107,19 @@ mod tests {
         let i = interleave(&c, 4);
         assert_eq!(i[3][17], 1);
         assert_eq!(i.concat().iter().filter(|&&bit| bit == 1).count(), 1);
+    }
+
+    #[test]
+    fn bursts_are_read_back() {
+        let mut random = Random::new(7);
+        for bursts in [4, 8] {
+            let c = random_bits(&mut random, 456);
+            let mapped: Vec<Vec<u8>> = interleave(&c, bursts)
+                .iter()
+                .map(|i| map_on_burst(i, 1, 0))
+                .collect();
+            let read: Vec<Vec<u8>> = mapped.iter().map(|e| places(e)).collect();
+            assert_eq!(gather(&read), c);
+        }
     }
 }

@@ -4,34 +4,34 @@ use crate::burst;
 use crate::polynomial::{from_powers, multiply, parity, Polynomial};
 
 /// A buffer has another length than the table says.
-const WRONG_LENGTH: u8 = 1;
+pub const WRONG_LENGTH: u8 = 1;
 /// A byte that is read as a bit is over 1.
-const NOT_A_BIT: u8 = 2;
+pub const NOT_A_BIT: u8 = 2;
 /// The identity is over 63.
 const WRONG_IDENTITY: u8 = 3;
 
 /// Speech, 3.1.2.1: g(D) = D^3 + D + 1
-fn speech_generator() -> Polynomial {
+pub fn speech_generator() -> Polynomial {
     from_powers(&[3, 1, 0])
 }
 
 /// Control, 4.1.2: g(D) = (D^23 + 1)(D^17 + D^3 + 1)
-fn control_generator() -> Polynomial {
+pub fn control_generator() -> Polynomial {
     multiply(&from_powers(&[23, 0]), &from_powers(&[17, 3, 0]))
 }
 
 /// Access, 4.6: D^6 + D^5 + D^3 + D^2 + D + 1
-fn access_generator() -> Polynomial {
+pub fn access_generator() -> Polynomial {
     from_powers(&[6, 5, 3, 2, 1, 0])
 }
 
 /// SCH, 4.7: D^10 + D^8 + D^6 + D^5 + D^4 + D^2 + 1
-fn sch_generator() -> Polynomial {
+pub fn sch_generator() -> Polynomial {
     from_powers(&[10, 8, 6, 5, 4, 2, 0])
 }
 
 /// Refusal 1 for a wrong length, then refusal 2 for a byte over 1.
-fn check(d: &[u8], length: usize) -> Result<(), u8> {
+pub fn check(d: &[u8], length: usize) -> Result<(), u8> {
     if d.len() != length {
         return Err(WRONG_LENGTH);
     }
@@ -41,9 +41,17 @@ fn check(d: &[u8], length: usize) -> Result<(), u8> {
     Ok(())
 }
 
+/// Refusal 3 for an identity over 63.
+pub fn check_identity(identity: u16) -> Result<(), u8> {
+    if identity > 63 {
+        return Err(WRONG_IDENTITY);
+    }
+    Ok(())
+}
+
 /// c(2k)   = u(k) + u(k-3) + u(k-4)
 /// c(2k+1) = u(k) + u(k-1) + u(k-3) + u(k-4), with u(k) = 0 for k < 0
-fn convolve(u: &[u8]) -> Vec<u8> {
+pub fn convolve(u: &[u8]) -> Vec<u8> {
     let before = |k: usize, steps: usize| if k < steps { 0 } else { u[k - steps] };
     let mut c = vec![0; 2 * u.len()];
     for k in 0..u.len() {
@@ -107,24 +115,24 @@ pub fn sacch(d: &[u8]) -> Result<Vec<u8>, u8> {
     Ok(message)
 }
 
-/// C(k) = b(k) + p(k) for k = 0..5; b(0) is the highest bit of the identity, b(5) the lowest
+/// b(0) is the highest bit of the identity, b(5) the lowest
+pub fn identity_bits(identity: u16) -> Vec<u8> {
+    let values = [32, 16, 8, 4, 2, 1];
+    let bit = |value: &u16| ((identity / value) % 2) as u8;
+    values.iter().map(bit).collect()
+}
+
+/// C(k) = b(k) + p(k) for k = 0..5
 fn colour(identity: u16, d: &[u8]) -> Vec<u8> {
     let p = parity(d, &access_generator());
-    let values = [32, 16, 8, 4, 2, 1];
-    let mut colours = vec![0; 6];
-    for k in 0..=5 {
-        let b = ((identity / values[k]) % 2) as u8;
-        colours[k] = (b + p[k]) % 2;
-    }
-    colours
+    let b = identity_bits(identity);
+    (0..=5).map(|k| (b[k] + p[k]) % 2).collect()
 }
 
 /// Access, 4.6: u(k) = d(k) for k = 0..7, u(k) = C(k-8) for k = 8..13, u(k) = 0 for k = 14..17
 pub fn access(identity: u16, d: &[u8]) -> Result<Vec<u8>, u8> {
     check(d, 8)?;
-    if identity > 63 {
-        return Err(WRONG_IDENTITY);
-    }
+    check_identity(identity)?;
     Ok(convolve(&block(d, &colour(identity, d))))
 }
 
@@ -138,23 +146,13 @@ pub fn sch(d: &[u8]) -> Result<Vec<u8>, u8> {
 #[cfg(test)]
 mod tests {
     use super::*;
-    use crate::polynomial::{from_bits, remainder};
+    use crate::lists::random_bits;
+    use crate::polynomial::leaves_all_ones;
     use crate::random::Random;
 
     /// The indices at which a one stands.
     fn ones(bits: &[u8]) -> Vec<usize> {
         (0..bits.len()).filter(|&k| bits[k] == 1).collect()
-    }
-
-    /// A block of random bits.
-    fn random_bits(random: &mut Random, length: usize) -> Vec<u8> {
-        (0..length).map(|_| random.below(2) as u8).collect()
-    }
-
-    /// Data and parity bits, divided by g(D), leave all ones.
-    fn leaves_all_ones(d: &[u8], p: &[u8], g: &[u8]) -> bool {
-        let rest = remainder(&from_bits(&[d, p].concat()), g);
-        rest.len() == p.len() && rest.iter().all(|&coefficient| coefficient == 1)
     }
 
     #[test]
@@ -240,7 +238,7 @@ mod tests {
         for (length, g) in kinds {
             for _ in 0..200 {
                 let d = random_bits(&mut random, length);
-                assert!(leaves_all_ones(&d, &parity(&d, &g), &g));
+                assert!(leaves_all_ones(&[&d[..], &parity(&d, &g)].concat(), &g));
             }
         }
     }

@@ -2,6 +2,8 @@
 
 use crate::coding;
 use crate::page::written;
+use crate::receiving::{self, Received};
+use crate::trellis;
 
 /// A line over this many bytes is not understood.
 const LONGEST_LINE: usize = 1000;
@@ -33,14 +35,53 @@ fn number(characters: &[u8]) -> Option<u16> {
     u16::try_from(value).ok()
 }
 
+/// The sixteen numbers of the view, parted by single spaces, or "refused" and the number.
+fn viewed(received: &[u8]) -> String {
+    match trellis::view(received) {
+        Ok(view) => view.map(|number| number.to_string()).join(" "),
+        Err(refusal) => format!("refused {}", refusal),
+    }
+}
+
+/// The count and the bits; or "refused", the number, and the count if it is returned besides.
+fn decoded(result: Received) -> String {
+    match result {
+        Ok((count, d)) => format!("{} {}", count, written(Ok(d))),
+        Err(refusal) => match refusal.count {
+            Some(count) => format!("refused {} {}", refusal.number, count),
+            None => format!("refused {}", refusal.number),
+        },
+    }
+}
+
 /// The answer to a word and its arguments; nothing if they are not understood.
 fn answer_fields(fields: &[&[u8]]) -> Option<String> {
+    sending(fields).or_else(|| receiving(fields))
+}
+
+/// The answer of a sending verb.
+fn sending(fields: &[&[u8]]) -> Option<String> {
     match fields {
         [b"speech", d] => Some(written(coding::speech(&bits(d)))),
         [b"control", d] => Some(written(coding::control(&bits(d)))),
         [b"sacch", d] => Some(written(coding::sacch(&bits(d)))),
         [b"access", identity, d] => Some(written(coding::access(number(identity)?, &bits(d)))),
         [b"sch", d] => Some(written(coding::sch(&bits(d)))),
+        _ => None,
+    }
+}
+
+/// The answer of the trellis view or of a receiving verb.
+fn receiving(fields: &[&[u8]]) -> Option<String> {
+    match fields {
+        // Without an argument it is the view of nothing.
+        [b"trellis"] => Some(viewed(&[])),
+        [b"trellis", c] => Some(viewed(&bits(c))),
+        [b"speech?", c] => Some(decoded(receiving::speech(&bits(c)))),
+        [b"control?", c] => Some(decoded(receiving::control(&bits(c)))),
+        [b"sacch?", e] => Some(decoded(receiving::sacch(&bits(e)))),
+        [b"access?", identity, c] => Some(decoded(receiving::access(number(identity)?, &bits(c)))),
+        [b"sch?", c] => Some(decoded(receiving::sch(&bits(c)))),
         _ => None,
     }
 }
@@ -192,5 +233,105 @@ mod tests {
     #[test]
     fn a_carriage_return_is_one_character_more() {
         assert_eq!(page_of(b"access 0 00000000\r\n"), "refused 1\n");
+    }
+
+    /// A view with these numbers for states 0 and 8, and none in the others.
+    fn view_line(state_0: usize, state_8: usize) -> String {
+        let mut numbers = vec!["65535".to_string(); 16];
+        numbers[0] = state_0.to_string();
+        numbers[8] = state_8.to_string();
+        numbers.join(" ")
+    }
+
+    #[test]
+    fn the_view_answers_sixteen_numbers() {
+        assert_eq!(answer_to("trellis 11"), view_line(2, 0));
+        assert_eq!(answer_to("trellis 00"), view_line(0, 2));
+        let longest = answer_to(&format!("trellis {}", "01".repeat(228)));
+        assert_eq!(longest.split(' ').count(), 16);
+    }
+
+    #[test]
+    fn the_view_of_nothing_may_lack_its_argument() {
+        assert_eq!(answer_to("trellis"), view_line(0, 65_535));
+        assert_eq!(answer_to("trellis "), view_line(0, 65_535));
+        assert_eq!(answer_to("trellis  "), "?");
+        assert_eq!(answer_to("trellis 11 11"), "?");
+        assert_eq!(answer_to(" trellis"), "?");
+        assert_eq!(answer_to("trellis?"), "?");
+    }
+
+    #[test]
+    fn the_view_refuses_lengths_and_then_bytes() {
+        assert_eq!(answer_to("trellis 2"), "refused 1");
+        assert_eq!(answer_to("trellis 12"), "refused 2");
+        assert_eq!(
+            answer_to(&format!("trellis {}", "2".repeat(458))),
+            "refused 1"
+        );
+    }
+
+    #[test]
+    fn receiving_answers_the_count_and_the_bits() {
+        let zeros = "0".repeat(36);
+        assert_eq!(answer_to(&format!("access? 63 {}", zeros)), "0 00000000");
+        assert_eq!(answer_to(&format!("access? 0 {}", zeros)), "refused 8 0");
+        assert_eq!(answer_to(&format!("access? 64 {}", zeros)), "refused 3");
+        let four_set = format!("1101001{}", "0".repeat(29));
+        assert_eq!(
+            answer_to(&format!("access? 63 {}", four_set)),
+            "refused 8 3"
+        );
+        assert_eq!(
+            answer_to(&format!("speech? {}", "0".repeat(456))),
+            "refused 8 0"
+        );
+    }
+
+    #[test]
+    fn what_is_sent_is_received() {
+        for (word, length) in [
+            ("speech", 260),
+            ("control", 184),
+            ("sacch", 184),
+            ("sch", 25),
+        ] {
+            let d = "0110100".repeat(38)[..length].to_string();
+            let sent = answer_to(&format!("{} {}", word, d));
+            let answer = answer_to(&format!("{}? {}", word, sent));
+            assert_eq!(answer, format!("0 {}", d));
+        }
+        let sent = answer_to("access 00041 01101001");
+        assert_eq!(answer_to(&format!("access? 41 {}", sent)), "0 01101001");
+        assert_eq!(answer_to(&format!("access? 40 {}", sent)), "refused 8 0");
+    }
+
+    #[test]
+    fn receiving_refuses_in_the_order_1_2_3() {
+        let right = "0".repeat(36);
+        let wrong = "2".repeat(36);
+        assert_eq!(answer_to(&format!("access? 64 {}2", right)), "refused 1");
+        assert_eq!(answer_to(&format!("access? 64 {}", wrong)), "refused 2");
+        assert_eq!(answer_to(&format!("access? 65535 {}", right)), "refused 3");
+        assert_eq!(answer_to(&format!("access? 65536 {}", right)), "?");
+        assert_eq!(answer_to("access? 5 "), "refused 1");
+        assert_eq!(answer_to("sch? "), "refused 1");
+    }
+
+    #[test]
+    fn receiving_needs_its_arguments() {
+        let c = "0".repeat(456);
+        for line in [
+            "speech?".to_string(),
+            format!("speech? {} ", c),
+            format!("speech ? {}", c),
+            format!("?speech {}", c),
+            format!("access? {}", &c[..36]),
+            format!("access?  {}", &c[..36]),
+            format!("access? 1 {} 1", &c[..36]),
+            format!("control?? {}", c),
+        ] {
+            assert_eq!(answer_to(&line), "?", "{}", line);
+        }
     }
 }

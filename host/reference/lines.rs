@@ -12,10 +12,10 @@ const VERBS: [(&str, usize); 5] = [
 ];
 
 /// A verb's line in its parts; the identity is written for access only.
-struct Request {
-    word: &'static str,
-    identity: Vec<u8>,
-    bits: Vec<u8>,
+pub struct Request {
+    pub word: &'static str,
+    pub identity: Vec<u8>,
+    pub bits: Vec<u8>,
 }
 
 impl Request {
@@ -47,22 +47,22 @@ impl Request {
     }
 
     /// The arguments in their order.
-    fn arguments(&self) -> Vec<&[u8]> {
+    pub fn arguments(&self) -> Vec<&[u8]> {
         match self.word {
-            "access" => vec![&self.identity, &self.bits],
+            "access" | "access?" => vec![&self.identity, &self.bits],
             _ => vec![&self.bits],
         }
     }
 
     /// The line with another word in place of its own.
-    fn line_with(&self, word: &[u8]) -> Vec<u8> {
+    pub fn line_with(&self, word: &[u8]) -> Vec<u8> {
         let mut fields = vec![word];
         fields.extend(self.arguments());
         fields.join(&b' ')
     }
 
     /// The line: the word and the arguments, parted by single spaces.
-    fn line(&self) -> Vec<u8> {
+    pub fn line(&self) -> Vec<u8> {
         self.line_with(self.word.as_bytes())
     }
 }
@@ -85,13 +85,13 @@ pub fn line(random: &mut Random) -> Vec<u8> {
 }
 
 /// An identity from 0 to 63, now and then with leading zeros.
-fn good_identity(random: &mut Random) -> Vec<u8> {
+pub fn good_identity(random: &mut Random) -> Vec<u8> {
     let identity = random.below(64);
     number_of(random, identity)
 }
 
 /// A number in one to five digits.
-fn number_of(random: &mut Random, value: usize) -> Vec<u8> {
+pub fn number_of(random: &mut Random, value: usize) -> Vec<u8> {
     let digits = if random.one_in(4) {
         2 + random.below(4)
     } else {
@@ -101,7 +101,7 @@ fn number_of(random: &mut Random, value: usize) -> Vec<u8> {
 }
 
 /// Bits as characters: all zeros, all ones, a single one, a single zero, or random.
-fn good_bits(random: &mut Random, length: usize) -> Vec<u8> {
+pub fn good_bits(random: &mut Random, length: usize) -> Vec<u8> {
     match random.below(12) {
         0 => vec![b'0'; length],
         1 => vec![b'1'; length],
@@ -121,7 +121,7 @@ fn single(random: &mut Random, length: usize, one: u8, others: u8) -> Vec<u8> {
 }
 
 /// A character that is no bit; a space would part the argument, a newline the line.
-fn wrong_character(random: &mut Random) -> u8 {
+pub fn wrong_character(random: &mut Random) -> u8 {
     match random.below(4) {
         0 => random.pick(b"23456789"),
         1 => random.pick(&[0, 1, 9, 11, 13, 31, 47, 58, 127, 128, 176, 177, 255]),
@@ -131,7 +131,7 @@ fn wrong_character(random: &mut Random) -> u8 {
 }
 
 /// Puts wrong characters at the first, at the last, at a few or at all indices.
-fn spoil(random: &mut Random, bits: &mut [u8]) {
+pub fn spoil(random: &mut Random, bits: &mut [u8]) {
     if bits.is_empty() {
         return;
     }
@@ -169,7 +169,7 @@ fn another_length(random: &mut Random, right: usize) -> usize {
 }
 
 /// An identity over 63: near the limit, of two digits, or up to 65535.
-fn high_identity(random: &mut Random) -> Vec<u8> {
+pub fn high_identity(random: &mut Random) -> Vec<u8> {
     let identity = match random.below(8) {
         0 => random.pick(&[64, 65, 99, 100]),
         1..=3 => 64 + random.below(36),
@@ -252,7 +252,7 @@ const NO_NUMBERS: [&[u8]; 22] = [
 ];
 
 /// What is no number: too long, too large, or not of digits alone.
-fn no_number(random: &mut Random) -> Vec<u8> {
+pub fn no_number(random: &mut Random) -> Vec<u8> {
     match random.below(8) {
         0 => (100_000 + random.below(900_000)).to_string().into_bytes(),
         1 => (65_536 + random.below(34_464)).to_string().into_bytes(),
@@ -285,7 +285,7 @@ fn bad_number(random: &mut Random) -> Vec<u8> {
 }
 
 /// A verb's word cut short, drawn out, or with its letters changed.
-fn changed_word(random: &mut Random, word: &str) -> Vec<u8> {
+pub fn changed_word(random: &mut Random, word: &str) -> Vec<u8> {
     let mut letters = word.as_bytes().to_vec();
     let index = random.below(letters.len());
     match random.below(6) {
@@ -332,7 +332,7 @@ fn wrong_fields(random: &mut Random) -> Vec<u8> {
 }
 
 /// The line with one of its spaces written twice.
-fn double_space(random: &mut Random, line: &[u8]) -> Vec<u8> {
+pub fn double_space(random: &mut Random, line: &[u8]) -> Vec<u8> {
     let spaces: Vec<usize> = (0..line.len()).filter(|&k| line[k] == b' ').collect();
     let mut doubled = line.to_vec();
     doubled.insert(random.pick(&spaces), b' ');

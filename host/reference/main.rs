@@ -1,29 +1,40 @@
-//! The reference: sends the blocks of GSM 05.03 by the plainest reading of its formulas.
-//! Its answers are laid beside those of the kit and of the access sheet, line by line.
+//! The reference: sends the blocks of GSM 05.03 by the plainest reading of its formulas, and
+//! receives them by the fewest disagreements. Its answers are laid beside those of the kit and
+//! of the access sheet, line by line.
 //!
-//! reference answer                   reads kit lines, prints the answers
-//! reference sheet                    reads access sheet lines, prints the answers
-//! reference make-lines SEED COUNT    prints COUNT kit lines
-//! reference make-sheet SEED COUNT    prints COUNT access sheet lines
+//! reference answer                     reads kit lines, prints the answers
+//! reference sheet                      reads access sheet lines, prints the answers
+//! reference make-lines SEED COUNT      prints COUNT kit lines that send
+//! reference make-received SEED COUNT   prints COUNT kit lines that receive
+//! reference make-views SEED COUNT      prints COUNT kit lines for the trellis view
+//! reference make-sheet SEED COUNT      prints COUNT access sheet lines
 
 // Loops keep the index k of the standard, so that each reads like its formula.
 #![allow(clippy::needless_range_loop, clippy::manual_memcpy)]
 
 mod burst;
 mod coding;
+mod decoding;
+mod exhaustive;
 mod kit;
 mod lines;
+mod lists;
 mod page;
 mod polynomial;
 mod random;
+mod received_lines;
+mod receiving;
 mod sheet;
 mod sheet_lines;
+mod survivors;
+mod trellis;
+mod view_lines;
 
 use std::io::{Read, Result, Write};
 use std::process::ExitCode;
 
-const USAGE: &str =
-    "usage: reference answer | sheet | make-lines SEED COUNT | make-sheet SEED COUNT";
+const USAGE: &str = "usage: reference answer | sheet | make-lines SEED COUNT | \
+    make-received SEED COUNT | make-views SEED COUNT | make-sheet SEED COUNT";
 
 /// What the command line asks for.
 #[derive(Debug, PartialEq)]
@@ -31,6 +42,8 @@ enum Task {
     Answer,
     Sheet,
     MakeLines(u64, u64),
+    MakeReceived(u64, u64),
+    MakeViews(u64, u64),
     MakeSheet(u64, u64),
 }
 
@@ -40,12 +53,18 @@ fn task(arguments: &[String]) -> Option<Task> {
     match words.as_slice() {
         ["answer"] => Some(Task::Answer),
         ["sheet"] => Some(Task::Sheet),
-        ["make-lines", seed, count] => {
-            Some(Task::MakeLines(seed.parse().ok()?, count.parse().ok()?))
-        }
-        ["make-sheet", seed, count] => {
-            Some(Task::MakeSheet(seed.parse().ok()?, count.parse().ok()?))
-        }
+        [make, seed, count] => making(make, seed.parse().ok()?, count.parse().ok()?),
+        _ => None,
+    }
+}
+
+/// The task of making lines; nothing if the word is none of those.
+fn making(make: &str, seed: u64, count: u64) -> Option<Task> {
+    match make {
+        "make-lines" => Some(Task::MakeLines(seed, count)),
+        "make-received" => Some(Task::MakeReceived(seed, count)),
+        "make-views" => Some(Task::MakeViews(seed, count)),
+        "make-sheet" => Some(Task::MakeSheet(seed, count)),
         _ => None,
     }
 }
@@ -63,6 +82,8 @@ fn run(task: Task) -> Result<()> {
         Task::Answer => page::answers(&standard_input()?, kit::answer),
         Task::Sheet => page::answers(&standard_input()?, sheet::answer),
         Task::MakeLines(seed, count) => page::made(seed, count, lines::line),
+        Task::MakeReceived(seed, count) => page::made(seed, count, received_lines::line),
+        Task::MakeViews(seed, count) => page::made(seed, count, view_lines::line),
         Task::MakeSheet(seed, count) => page::made(seed, count, sheet_lines::line),
     };
     let mut paper = std::io::stdout();
@@ -97,10 +118,15 @@ mod tests {
     }
 
     #[test]
-    fn the_four_commands_are_known() {
+    fn the_six_commands_are_known() {
         assert_eq!(task_of("answer"), Some(Task::Answer));
         assert_eq!(task_of("sheet"), Some(Task::Sheet));
         assert_eq!(task_of("make-lines 7 100"), Some(Task::MakeLines(7, 100)));
+        assert_eq!(
+            task_of("make-received 9 300"),
+            Some(Task::MakeReceived(9, 300))
+        );
+        assert_eq!(task_of("make-views 6 400"), Some(Task::MakeViews(6, 400)));
         assert_eq!(task_of("make-sheet 8 200"), Some(Task::MakeSheet(8, 200)));
     }
 
@@ -113,6 +139,8 @@ mod tests {
             "make-lines 7",
             "make-lines x 5",
             "make-sheet 7 -1",
+            "make-view 7 1",
+            "make-received 7 1 1",
         ] {
             assert_eq!(task_of(command), None, "{}", command);
         }

@@ -56,6 +56,12 @@ pub fn parity(d: &[u8], g: &[u8]) -> Vec<u8> {
     (0..m).map(|k| (rest[m - 1 - k] + 1) % 2).collect()
 }
 
+/// The bits, divided by g(D) of degree m, leave 1 + D + .. + D^(m-1).
+pub fn leaves_all_ones(bits: &[u8], g: &[u8]) -> bool {
+    let rest = remainder(&from_bits(bits), g);
+    rest.iter().all(|&coefficient| coefficient == 1)
+}
+
 #[cfg(test)]
 mod tests {
     use super::*;
@@ -95,5 +101,15 @@ mod tests {
         let mut f = multiply(&g, &from_powers(&[7, 4, 0]));
         f[3] = (f[3] + 1) % 2;
         assert_eq!(remainder(&f, &g), [0, 0, 0, 1, 0, 0]);
+    }
+
+    #[test]
+    fn all_ones_are_left_or_not() {
+        // D^5 + D^3 leaves D^2 + D + 1 + D + 1 = D^2, so D + 1 makes it all ones.
+        let g = from_powers(&[3, 1, 0]);
+        assert_eq!(remainder(&from_powers(&[5, 3]), &g), [0, 0, 1]);
+        assert!(leaves_all_ones(&[1, 0, 1, 0, 1, 1], &g));
+        assert!(!leaves_all_ones(&[1, 0, 1, 0, 0, 1], &g));
+        assert!(!leaves_all_ones(&[0, 0, 0, 0, 0, 0], &g));
     }
 }

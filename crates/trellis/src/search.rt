@@ -3,17 +3,20 @@ use crate::steps::choices;
 use crate::steps::step;
 ghost use mathlib.Core.List.{List, _++_, reverse};
 ghost use mathlib.Core.Path.{_≡_};
-ghost use Prim.Native.Nat.{ℕ, _+_, _*_, _/_, _%_, _^_, _≤_, _<_};
+ghost use Prim.Native.Nat.{ℕ, _+_, _-_, _*_, _/_, _%_, _^_, _≤_, _<_};
 ghost use lib.ListN.{length, getD, drop};
+ghost use Rattle.bits.specs.Bits.{Bits};
 ghost use Rattle.register.specs.Register.{bit, from};
 ghost use Rattle.trellis.specs.Nearest.{row, nearest, nearestCount};
 ghost use Rattle.trellis.specs.laws.Memory.{Remembers, retrace, bitsOf};
 
-// The row of no pairs: state 0 has 0, and no bits end in the others.
-fn first_row() -> [u16; 16]
-    ensures { λ r. ⌜ ((c : List ℕ) → r ≡ row c 0) ⌝ }
+// The row after n pairs, and in `memory` the choices of each.
+fn search(c: &[u8], n: usize, memory: &mut [u16]) -> [u16; 16]
+    requires { ⌜ (length (now c) ≡ 2 * n) × (n ≤ 228) × (length (now memory) ≡ 228) × Bits (now c) ⌝ }
+    ensures { λ r. ⌜ (r ≡ row (now (c .entry)) n) × (Remembers (now (c .entry)) n (now (memory .exit))) ⌝ }
 {
-    [
+    // of no pairs: state 0 has 0, and no bits end in the others
+    let mut row = [
         0,
         65535,
         65535,
@@ -30,15 +33,7 @@ fn first_row() -> [u16; 16]
         65535,
         65535,
         65535,
-    ]
-}
-
-// The row after n pairs, and in `memory` the choices of each.
-fn search(c: &[u8], n: usize, memory: &mut [u16]) -> [u16; 16]
-    requires { ⌜ (length (now c) ≡ 2 * n) × (n ≤ 228) × (length (now memory) ≡ 228) ⌝ }
-    ensures { λ r. ⌜ (r ≡ row (now (c .entry)) n) × (Remembers (now (c .entry)) n (now (memory .exit))) ⌝ }
-{
-    let mut row = first_row();
+    ];
     let mut k = 0;
     while k < n {
         let x = c[2 * k];
@@ -59,12 +54,12 @@ fn newest(s: usize) -> u8
     (s / 8) as u8
 }
 
-// The state before s, by the choice in bit s of the word.
+// The state before s, by its choice in the word.
 fn earlier(s: usize, word: u16) -> usize
     requires { ⌜ s < 16 ⌝ }
-    ensures { λ r. ⌜ (r ≡ from 8 s (word / 2 ^ s % 2)) × (r < 16) ⌝ }
+    ensures { λ r. ⌜ (r ≡ from 8 s (word / 2 ^ (15 - s) % 2)) × (r < 16) ⌝ }
 {
-    2 * (s % 8) + widened((word >> s) % 2)
+    2 * (s % 8) + widened((word >> (15 - s)) % 2)
 }
 
 fn widened(o: u16) -> usize
@@ -74,9 +69,9 @@ fn widened(o: u16) -> usize
 }
 
 // The walk back from state s after t pairs: it writes bit t - 1, and those before it.
-fn walk(memory: &[u16], t: usize, s: usize, u: &mut [u8])
-    requires { ⌜ (t ≤ length (now memory)) × (t ≤ length (now u)) × (s < 16) ⌝ }
-    ensures { λ _. ⌜ now (u .exit) ≡ reverse (retrace (bitsOf (now (memory .entry))) t s) ++ drop t (now (u .entry)) ⌝ }
+fn walk(memory: &[u16; 228], t: usize, s: usize, u: &mut [u8; 228])
+    requires { ⌜ (t ≤ 228) × (length (now u) ≡ 228) × (s < 16) ⌝ }
+    ensures { λ _. ⌜ (now (u .exit) ≡ reverse (retrace (bitsOf (now (memory .entry))) t s) ++ drop t (now (u .entry))) × (length (now (u .exit)) ≡ 228) ⌝ }
 {
     if t > 0 {
         let k = t - 1;
@@ -87,19 +82,21 @@ fn walk(memory: &[u16], t: usize, s: usize, u: &mut [u8])
 
 // THE nearest block of as many bits as u has places, and in how many places its pairs disagree with c.
 pub fn nearest(c: &[u8], u: &mut [u8]) -> u16
-    requires { ⌜ (length (now c) ≡ 2 * length (now u)) × (length (now u) ≤ 228) ⌝ }
+    requires { ⌜ (length (now c) ≡ 2 * length (now u)) × (length (now u) ≤ 228) × Bits (now c) ⌝ }
     ensures { λ r. ⌜ (now (u .exit) ≡ nearest (now (c .entry)) (length (now (u .entry)))) × (r ≡ nearestCount (now (c .entry)) (length (now (u .entry)))) ⌝ }
 {
     let n = u.len();
     let mut memory = [0u16; 228];
     let row = search(c, n, &mut memory);
-    walk(&memory, n, 0, u);
+    let mut whole = [0u8; 228];
+    walk(&memory, n, 0, &mut whole);
+    bits::copy(&whole[0..n], u);
     row[0]
 }
 
 // The sixteen numbers after the pairs of c.
 pub fn view(c: &[u8]) -> [u16; 16]
-    requires { ⌜ (length (now c) ≤ 456) × (length (now c) % 2 ≡ 0) ⌝ }
+    requires { ⌜ (length (now c) ≤ 456) × (length (now c) % 2 ≡ 0) × Bits (now c) ⌝ }
     ensures { λ r. ⌜ r ≡ row (now (c .entry)) (length (now (c .entry)) / 2) ⌝ }
 {
     let mut memory = [0u16; 228];

@@ -3,11 +3,11 @@ use crate::pair;
 ghost use mathlib.Core.Path.{_≡_};
 ghost use Prim.Native.Nat.{_+_, _*_, _/_, _%_, _≤_, _<_, min};
 ghost use lib.ListN.{getD};
-ghost use Rattle.bits.specs.Bits.{pick, tab};
+ghost use Rattle.bits.specs.Bits.{pick, tab, value};
 ghost use lib.Dec.{ltb};
 ghost use Rattle.trellis.specs.Nearest.{differ};
 ghost use Rattle.trellis.specs.Pairs.{pairOf};
-ghost use Rattle.trellis.specs.laws.Steps.{wayOf, stepAt, chosenAt, octetAt, packed};
+ghost use Rattle.trellis.specs.laws.Steps.{costInto, stepAt, chosenAt};
 
 // Does received r disagree with coded bit x?
 fn apart(x: u8, r: u8) -> u16
@@ -25,9 +25,41 @@ fn pair_cost(s: usize, b: usize, x: u8, y: u8) -> u16
     apart(p / 2, x) + apart(p % 2, y)
 }
 
+// What the first way into each state costs; the second costs what the first way into the state eight further on does.
+fn costs(x: u8, y: u8) -> [u16; 16]
+    requires { ⌜ (x ≤ 1) × (y ≤ 1) ⌝ }
+    ensures { λ r. ⌜ r ≡ tab 16 (costInto x y) ⌝ }
+{
+    let c0 = pair_cost(0, 0, x, y);
+    let c1 = pair_cost(2, 0, x, y);
+    let c2 = pair_cost(4, 0, x, y);
+    let c3 = pair_cost(6, 0, x, y);
+    let c4 = pair_cost(8, 0, x, y);
+    let c5 = pair_cost(10, 0, x, y);
+    let c6 = pair_cost(12, 0, x, y);
+    let c7 = pair_cost(14, 0, x, y);
+    [
+        c0,
+        c1,
+        c2,
+        c3,
+        c4,
+        c5,
+        c6,
+        c7,
+        2 - c0,
+        2 - c1,
+        2 - c2,
+        2 - c3,
+        2 - c4,
+        2 - c5,
+        2 - c6,
+        2 - c7,
+    ]
+}
+
 // A count and one step's cost; 65,535 stays what it is.
 fn plus(a: u16, c: u16) -> u16
-    requires { ⌜ c ≤ 2 ⌝ }
     ensures { λ r. ⌜ r ≡ min (a + c) 65535 ⌝ }
 {
     if a < 65535 - c { a + c } else { 65535 }
@@ -35,7 +67,6 @@ fn plus(a: u16, c: u16) -> u16
 
 // The fewer of the two ways into a state: from count a at cost c, or from count b at cost d.
 fn join(a: u16, c: u16, b: u16, d: u16) -> u16
-    requires { ⌜ (c ≤ 2) × (d ≤ 2) ⌝ }
     ensures { λ r. ⌜ r ≡ min (min (a + c) 65535) (min (b + d) 65535) ⌝ }
 {
     let p = plus(a, c);
@@ -43,75 +74,61 @@ fn join(a: u16, c: u16, b: u16, d: u16) -> u16
     if q < p { q } else { p }
 }
 
-// The count of state s after the pair, from the counts a and b of the two states that it can have come from.
-fn into(a: u16, b: u16, s: usize, x: u8, y: u8) -> u16
-    requires { ⌜ s < 16 ⌝ }
-    ensures { λ r. ⌜ r ≡ min (wayOf a x y s 0) (wayOf b x y s 1) ⌝ }
+// 1 where the second way is the cheaper one. On equal counts the first is kept, which has 0 at the first difference.
+fn cheaper(a: u16, c: u16, b: u16, d: u16) -> u16
+    ensures { λ r. ⌜ (r ≡ pick (ltb (min (b + d) 65535) (min (a + c) 65535)) 1 0) × (r ≤ 1) ⌝ }
 {
-    let from = 2 * (s % 8);
-    let bit = s / 8;
-    join(
-        a,
-        pair_cost(from, bit, x, y),
-        b,
-        pair_cost(from + 1, bit, x, y),
-    )
+    let p = plus(a, c);
+    let q = plus(b, d);
+    if q < p { 1 } else { 0 }
 }
 
-// 1 where the second way into state s is the cheaper one, else 0: on equal counts the first is kept, which has 0 at the first difference.
-fn prefers(a: u16, b: u16, s: usize, x: u8, y: u8) -> u16
-    requires { ⌜ s < 16 ⌝ }
-    ensures { λ r. ⌜ (r ≡ pick (ltb (wayOf b x y s 1) (wayOf a x y s 0)) 1 0) × (r ≤ 1) ⌝ }
-{
-    let from = 2 * (s % 8);
-    let bit = s / 8;
-    let first = plus(a, pair_cost(from, bit, x, y));
-    let second = plus(b, pair_cost(from + 1, bit, x, y));
-    if second < first { 1 } else { 0 }
-}
-
-// The row after one more received pair.
+// The row after one more received pair: eight pairs of states, each of which goes to two.
 pub fn step(row: [u16; 16], x: u8, y: u8) -> [u16; 16]
+    requires { ⌜ (x ≤ 1) × (y ≤ 1) ⌝ }
     ensures { λ r. ⌜ r ≡ tab 16 (stepAt row x y) ⌝ }
 {
+    let w = costs(x, y);
     [
-        into(row[0], row[1], 0, x, y),
-        into(row[2], row[3], 1, x, y),
-        into(row[4], row[5], 2, x, y),
-        into(row[6], row[7], 3, x, y),
-        into(row[8], row[9], 4, x, y),
-        into(row[10], row[11], 5, x, y),
-        into(row[12], row[13], 6, x, y),
-        into(row[14], row[15], 7, x, y),
-        into(row[0], row[1], 8, x, y),
-        into(row[2], row[3], 9, x, y),
-        into(row[4], row[5], 10, x, y),
-        into(row[6], row[7], 11, x, y),
-        into(row[8], row[9], 12, x, y),
-        into(row[10], row[11], 13, x, y),
-        into(row[12], row[13], 14, x, y),
-        into(row[14], row[15], 15, x, y),
+        join(row[0], w[0], row[1], w[8]),
+        join(row[2], w[1], row[3], w[9]),
+        join(row[4], w[2], row[5], w[10]),
+        join(row[6], w[3], row[7], w[11]),
+        join(row[8], w[4], row[9], w[12]),
+        join(row[10], w[5], row[11], w[13]),
+        join(row[12], w[6], row[13], w[14]),
+        join(row[14], w[7], row[15], w[15]),
+        join(row[0], w[8], row[1], w[0]),
+        join(row[2], w[9], row[3], w[1]),
+        join(row[4], w[10], row[5], w[2]),
+        join(row[6], w[11], row[7], w[3]),
+        join(row[8], w[12], row[9], w[4]),
+        join(row[10], w[13], row[11], w[5]),
+        join(row[12], w[14], row[13], w[6]),
+        join(row[14], w[15], row[15], w[7]),
     ]
 }
 
-// The choices of eight states from s on, 0 or 8: both eights come from all sixteen.
-fn eight(row: [u16; 16], s: usize, x: u8, y: u8) -> u16
-    requires { ⌜ s ≤ 8 ⌝ }
-    ensures { λ r. ⌜ (r ≡ packed 8 (octetAt row x y s)) × (r < 256) ⌝ }
-{
-    prefers(row[0], row[1], s, x, y)
-        + 2 * prefers(row[2], row[3], s + 1, x, y)
-        + 4 * prefers(row[4], row[5], s + 2, x, y)
-        + 8 * prefers(row[6], row[7], s + 3, x, y)
-        + 16 * prefers(row[8], row[9], s + 4, x, y)
-        + 32 * prefers(row[10], row[11], s + 5, x, y)
-        + 64 * prefers(row[12], row[13], s + 6, x, y)
-        + 128 * prefers(row[14], row[15], s + 7, x, y)
-}
-
-// The choices of one received pair, that of state s in bit s.
+// The sixteen choices of one received pair, put into one word one after another, that of state 0 in the highest bit.
 pub fn choices(row: [u16; 16], x: u8, y: u8) -> u16
-    ensures { λ r. ⌜ r ≡ packed 16 (chosenAt row x y) ⌝ }
+    requires { ⌜ (x ≤ 1) × (y ≤ 1) ⌝ }
+    ensures { λ r. ⌜ r ≡ value (tab 16 (chosenAt row x y)) ⌝ }
 {
-    eight(row, 0, x, y) + 256 * eight(row, 8, x, y)
+    let w = costs(x, y);
+    let n0 = cheaper(row[0], w[0], row[1], w[8]);
+    let n1 = cheaper(row[2], w[1], row[3], w[9]) | (n0 << 1);
+    let n2 = cheaper(row[4], w[2], row[5], w[10]) | (n1 << 1);
+    let n3 = cheaper(row[6], w[3], row[7], w[11]) | (n2 << 1);
+    let n4 = cheaper(row[8], w[4], row[9], w[12]) | (n3 << 1);
+    let n5 = cheaper(row[10], w[5], row[11], w[13]) | (n4 << 1);
+    let n6 = cheaper(row[12], w[6], row[13], w[14]) | (n5 << 1);
+    let n7 = cheaper(row[14], w[7], row[15], w[15]) | (n6 << 1);
+    let n8 = cheaper(row[0], w[8], row[1], w[0]) | (n7 << 1);
+    let n9 = cheaper(row[2], w[9], row[3], w[1]) | (n8 << 1);
+    let n10 = cheaper(row[4], w[10], row[5], w[2]) | (n9 << 1);
+    let n11 = cheaper(row[6], w[11], row[7], w[3]) | (n10 << 1);
+    let n12 = cheaper(row[8], w[12], row[9], w[4]) | (n11 << 1);
+    let n13 = cheaper(row[10], w[13], row[11], w[5]) | (n12 << 1);
+    let n14 = cheaper(row[12], w[14], row[13], w[6]) | (n13 << 1);
+    cheaper(row[14], w[15], row[15], w[7]) | (n14 << 1)
 }

@@ -66,7 +66,8 @@ low b v m j h =
     ∙ ap (λ (k : ℕ). k * 2 ^ j) (sym (mul-assoc b (2 ^ (m - 1 - j)) 2)) in
     rw (e, mul-add-div-right (pow-pos j) ((b * 2 ^ (m - 1 - j)) * 2) v, mul-add-mod-self-right (b * 2 ^ (m - 1 - j)) 2 (v / 2 ^ j))
 
-at-digit : (w : List ℕ) → Bits w → (k : ℕ) → k < length w → getD w k 0 ≡ value w / 2 ^ (length w - 1 - k) % 2
+-- a digit of a list's number is found at its place
+pub at-digit : (w : List ℕ) → Bits w → (k : ℕ) → k < length w → getD w k 0 ≡ value w / 2 ^ (length w - 1 - k) % 2
 unfolding value
 at-digit [] bw k h = absurd (not-suc-le-zero h)
 at-digit (b ∷ w) bw zero h =

@@ -4,22 +4,23 @@ use mathlib.Core.List.{List, [], _∷_, _++_, reverse, reverse-cons, append-asso
 use mathlib.Core.Logic.{⊎-elim}
 use mathlib.Core.Path.{_≡_, refl, sym, ap, ap₂, _∙_, subst}
 use Prim.Native.Nat.{ℕ, zero, suc, _+_, _-_, _*_, _/_, _%_, _^_, _≤_, _<_, min}
-use native.Mathlib.Nat.{add-mul-div-left, div-eq-of-lt, mul-assoc, mul-comm, pow-succ', add-mul-mod-self-left, eq-or-lt-of-le, le-of-suc-le-suc}
+use native.Mathlib.Nat.{not-suc-le-zero}
 use native.Mathlib.Numerals.{add-one}
 use native.Mathlib.Omega.{arith}
 use lib.Arith.{digits-lt}
 use lib.Dec.{ltb}
-use lib.ListN.{length, getD, drop, set, length-set, drop-of-length-le}
+use lib.ListN.{length, getD, take, drop, set, length-set, length-reverse}
 use lib.Pow.{pow-pos, pow-add}
-use lib.Seq.{append-snoc, drop-cons, drop-set-lt, getD-set-same, getD-set-other}
+use lib.Seq.{append-snoc, take-at, drop-cons, drop-set-lt, getD-set-same, getD-set-other}
 use borrow.Author.Count.{below-more}
-use Rattle.bits.specs.Bits.{pick, tab, tabFrom}
+use Rattle.bits.specs.Bits.{pick, tab, tabFrom, value}
 use Rattle.bits.specs.laws.Cases.{lt-or-le}
-use Rattle.bits.specs.laws.Tab.{at-tab, tab-same}
+use Rattle.bits.specs.laws.Tab.{at-tab, tab-same, length-tab, bits-tab}
+use Rattle.bits.specs.laws.Value.{at-digit}
 use Rattle.register.specs.Register.{bit, from, way, best, choice, walk}
 use Rattle.register.specs.laws.Steps.{from-lt}
 use Rattle.trellis.specs.Nearest.{pairCost, rowAt, row, nearest, nearestCount}
-use Rattle.trellis.specs.laws.Steps.{wayOf, stepAt, chosenAt, packed}
+use Rattle.trellis.specs.laws.Steps.{wayOf, stepAt, chosenAt}
 
 -- ---- one pair more
 module _ (r : List ℕ) (t : ℕ) where
@@ -46,34 +47,10 @@ unfolding row rowAt best tab tabFrom
 row-first r = refl
 
 -- ---- a choice is found again in its bit
-packed-lt : (n : ℕ) (f : ℕ → ℕ) → ((i : ℕ) → f i ≤ 1) → packed n f < 2 ^ n
-unfolding packed
-packed-lt zero f h = omega arith
-packed-lt (suc n) f h =
-    let l = digits-lt {q = f n} {m = 2} {r = packed n f} {c = 2 ^ n} (omega (arith, h n)) (packed-lt n f h) in
-    rw (pow-succ' 2 n, mul-comm (2 ^ n) (f n)) (omega (arith, l))
-
--- one bit more above place s changes nothing there
-above : (x b n s : ℕ) → s < n → (x + 2 ^ n * b) / 2 ^ s % 2 ≡ x / 2 ^ s % 2
-above x b n s l =
-    let e : n ≡ s + suc (n - 1 - s) = omega arith in
-    let m : 2 ^ n * b ≡ 2 ^ s * (2 * (2 ^ (n - 1 - s) * b)) =
-    ap (λ (k : ℕ). 2 ^ k * b) e
-    ∙ ap (λ (k : ℕ). k * b) (pow-add 2 s (suc (n - 1 - s)) ∙ ap (λ (k : ℕ). 2 ^ s * k) (pow-succ' 2 (n - 1 - s)))
-    ∙ mul-assoc (2 ^ s) (2 * 2 ^ (n - 1 - s)) b
-    ∙ ap (λ (k : ℕ). 2 ^ s * k) (mul-assoc 2 (2 ^ (n - 1 - s)) b) in
-    rw (m, add-mul-div-left x (2 * (2 ^ (n - 1 - s) * b)) (pow-pos s)) (add-mul-mod-self-left (x / 2 ^ s) 2 (2 ^ (n - 1 - s) * b))
-
-top : (x b n : ℕ) → x < 2 ^ n → b ≤ 1 → (x + 2 ^ n * b) / 2 ^ n % 2 ≡ b
-top x b n l h = rw (add-mul-div-left x b (pow-pos n), div-eq-of-lt l) (omega arith)
-
-pub packed-bit : (n : ℕ) (f : ℕ → ℕ) → ((i : ℕ) → f i ≤ 1) → (s : ℕ) → s < n → packed n f / 2 ^ s % 2 ≡ f s
-unfolding packed
-packed-bit zero f h s l = let z : ⊥ = omega arith in absurd z
-packed-bit (suc n) f h s l =
-    ⊎-elim (λ (e : s ≡ n). subst (λ (k : ℕ). packed (suc n) f / 2 ^ k % 2 ≡ f k) (sym e) (top (packed n f) (f n) n (packed-lt n f h) (h n)))
-    (λ (m : s < n). above (packed n f) (f n) n s m ∙ packed-bit n f h s m)
-    (eq-or-lt-of-le (le-of-suc-le-suc l))
+pub word-bit : (f : ℕ → ℕ) → ((i : ℕ) → f i ≤ 1) → (s : ℕ) → s < 16 → value (tab 16 f) / 2 ^ (15 - s) % 2 ≡ f s
+word-bit f h s l =
+    let n = length-tab 16 f in
+    sym (at-digit (tab 16 f) (bits-tab 16 f h) s (rw n l) ∙ ap (λ (k : ℕ). value (tab 16 f) / 2 ^ (k - 1 - s) % 2) n) ∙ at-tab 16 f s l
 
 pub choice-le : (r : List ℕ) (t s : ℕ) → choice 8 (pairCost r) 65535 t s ≤ 1
 unfolding choice
@@ -112,19 +89,19 @@ retrace-more g k s u b h e =
 
 -- ---- what the memory holds, and the choices that the walk reads out of it
 abbrev pub Remembers : List ℕ → ℕ → List ℕ → Type 0
-Remembers r n m = (t : ℕ) → t < n → getD m t 0 ≡ packed 16 (choice 8 (pairCost r) 65535 t)
+Remembers r n m = (t : ℕ) → t < n → getD m t 0 ≡ value (tab 16 (choice 8 (pairCost r) 65535 t))
 
 unfoldable pub bitsOf : List ℕ → ℕ → ℕ → ℕ
-bitsOf m t s = getD m t 0 / 2 ^ s % 2
+bitsOf m t s = getD m t 0 / 2 ^ (15 - s) % 2
 
-pub walked : (m u : List ℕ) (t s b p : ℕ) (after : List ℕ) → 0 < t → t ≤ length u → b ≡ bit 8 s → p ≡ from 8 s (getD m (t - 1) 0 / 2 ^ s % 2)
+pub walked : (m u : List ℕ) (t s b p : ℕ) (after : List ℕ) → 0 < t → t ≤ length u → b ≡ bit 8 s → p ≡ from 8 s (getD m (t - 1) 0 / 2 ^ (15 - s) % 2)
     → after ≡ reverse (retrace (bitsOf m) (t - 1) p) ++ drop (t - 1) (set u (t - 1) b) → after ≡ reverse (retrace (bitsOf m) t s) ++ drop t u
 unfolding bitsOf
 walked m u zero s b p after h l eb ep ea = let z : ⊥ = omega arith in absurd z
 walked m u (suc k) s b p after h l eb ep ea =
     let e : suc k - 1 ≡ k = omega arith in
     ea
-    ∙ ap₂ (λ (i q : ℕ). reverse (retrace (bitsOf m) i q) ++ drop i (set u i b)) e (ep ∙ ap (λ (i : ℕ). from 8 s (getD m i 0 / 2 ^ s % 2)) e)
+    ∙ ap₂ (λ (i q : ℕ). reverse (retrace (bitsOf m) i q) ++ drop i (set u i b)) e (ep ∙ ap (λ (i : ℕ). from 8 s (getD m i 0 / 2 ^ (15 - s) % 2)) e)
     ∙ retrace-more (bitsOf m) k s u b l eb
 
 pub stayed : (m u : List ℕ) (t s : ℕ) → t ≤ 0 → u ≡ reverse (retrace (bitsOf m) t s) ++ drop t u
@@ -136,35 +113,36 @@ stayed m u (suc t) s h = let z : ⊥ = omega arith in absurd z
 pub remembers-none : (r m : List ℕ) → Remembers r 0 m
 remembers-none r m t h = let z : ⊥ = omega arith in absurd z
 
-packed-same : (n : ℕ) (f g : ℕ → ℕ) → ((i : ℕ) → i < n → f i ≡ g i) → packed n f ≡ packed n g
-unfolding packed
-packed-same zero f g h = refl
-packed-same (suc n) f g h = ap₂ (λ (a b : ℕ). a + 2 ^ n * b) (packed-same n f g (λ i l. h i (omega arith))) (h n (omega arith))
-
-pub remembers-more : (r m f : List ℕ) (k w : ℕ) → k < length m → f ≡ row r k → w ≡ packed 16 (chosenAt f (getD r (2 * k) 0) (getD r (2 * k + 1) 0))
+pub remembers-more : (r m f : List ℕ) (k w : ℕ) → k < length m → f ≡ row r k → w ≡ value (tab 16 (chosenAt f (getD r (2 * k) 0) (getD r (2 * k + 1) 0)))
     → Remembers r k m → Remembers r (k + 1) (set m k w)
 remembers-more r m f k w h ef ew old =
-    below-more (λ (t : ℕ). getD (set m k w) t 0 ≡ packed 16 (choice 8 (pairCost r) 65535 t)) k
+    below-more (λ (t : ℕ). getD (set m k w) t 0 ≡ value (tab 16 (choice 8 (pairCost r) 65535 t))) k
     (λ t l. getD-set-other m k t w 0 (λ (q : t ≡ k). omega (arith, q, l)) ∙ old t l)
     (getD-set-same m k w 0 h
     ∙ ew
-    ∙ ap (λ (g : List ℕ). packed 16 (chosenAt g (getD r (2 * k) 0) (getD r (2 * k + 1) 0))) ef
-    ∙ packed-same 16 (chosenAt (row r k) (getD r (2 * k) 0) (getD r (2 * k + 1) 0)) (choice 8 (pairCost r) 65535 k) (chosen-same r k))
+    ∙ ap (λ (g : List ℕ). value (tab 16 (chosenAt g (getD r (2 * k) 0) (getD r (2 * k + 1) 0)))) ef
+    ∙ ap value (tab-same 16 (chosenAt (row r k) (getD r (2 * k) 0) (getD r (2 * k + 1) 0)) (choice 8 (pairCost r) 65535 k) (chosen-same r k)))
 
 pub row-more : (r f g : List ℕ) (k : ℕ) → f ≡ row r k → g ≡ tab 16 (stepAt f (getD r (2 * k) 0) (getD r (2 * k + 1) 0)) → g ≡ row r (k + 1)
 row-more r f g k ef eg =
     eg ∙ ap (λ (h : List ℕ). tab 16 (stepAt h (getD r (2 * k) 0) (getD r (2 * k + 1) 0))) ef ∙ row-next r k ∙ ap (row r) (sym (add-one k))
 
+length-retrace : (g : ℕ → ℕ → ℕ) (t s : ℕ) → length (retrace g t s) ≡ t
+unfolding retrace
+length-retrace g zero s = refl
+length-retrace g (suc t) s = ap suc (length-retrace g t (from 8 s (g t s)))
+
 -- ---- the whole: the walk through the remembered choices is the nearest block
-pub found : (r m u after : List ℕ) (n : ℕ) → length u ≡ n → Remembers r n m → after ≡ reverse (retrace (bitsOf m) n 0) ++ drop n u → after ≡ nearest r n
+pub found : (r m rest w after : List ℕ) (n : ℕ) → Remembers r n m → w ≡ reverse (retrace (bitsOf m) n 0) ++ rest → after ≡ take (n - 0) w → after ≡ nearest r n
 unfolding nearest bitsOf
-found r m u after n l mem e =
-    let d : drop n u ≡ [] = drop-of-length-le u {i = n} (omega (arith, l)) in
-    let w : retrace (bitsOf m) n 0 ≡ walk 8 (pairCost r) 65535 n 0 =
+found r m rest w after n mem ew ea =
+    let p = retrace (bitsOf m) n 0 in
+    let l : length (reverse p) ≡ n - 0 = length-reverse p ∙ length-retrace (bitsOf m) n 0 ∙ omega arith in
+    let e : p ≡ walk 8 (pairCost r) 65535 n 0 =
     retraced r (bitsOf m) n
-    (λ t s lt ls. ap (λ (x : ℕ). x / 2 ^ s % 2) (mem t lt) ∙ packed-bit 16 (choice 8 (pairCost r) 65535 t) (choice-le r t) s ls)
+    (λ t s lt ls. ap (λ (x : ℕ). x / 2 ^ (15 - s) % 2) (mem t lt) ∙ word-bit (choice 8 (pairCost r) 65535 t) (choice-le r t) s ls)
     0 (omega arith) in
-    e ∙ ap₂ (λ (x y : List ℕ). reverse x ++ y) w d ∙ append-nil (reverse (walk 8 (pairCost r) 65535 n 0))
+    ea ∙ ap (take (n - 0)) ew ∙ take-at (reverse p) rest (n - 0) l ∙ ap reverse e
 
 pub count-is : (r f : List ℕ) (n : ℕ) → f ≡ row r n → getD f 0 0 ≡ nearestCount r n
 unfolding nearestCount row

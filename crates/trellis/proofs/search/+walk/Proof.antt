@@ -27,28 +27,28 @@ walk-below t = and 2 walk-kinds.ps (falls 2 walk-kinds.ps _<_ μ-walk t) walk.Pr
 
 walk-walk-requires : (t : ℕ) → walk-lts.Need-walk-requires (newest-reads.Asked, newest-reads.Learnt, earlier-reads.Asked, earlier-reads.Learnt, walk-below t, walk.Post) (walk-at t) walk.Post
 walk-walk-requires t c κs =
-    let start = c .before .before .before .before .before .before .before in
-    let k = start .args .t - 1 in (
+    let start = c .before .before .before .before .before in (
       omega (arith, start .pre .0, c .before .before .before .before .if1 .taken),
-      (omega (arith, start .pre .1 .0), simp length-set (omega (arith, start .pre .1 .1)), c .before .earlier .ensures .1),
+      (
+        omega (arith, start .pre .1 .0),
+        length-set (start .args .u .now) (start .args .t - 1) (c .before .before .before .newest .result) ∙ start .pre .1 .1,
+        c .before .earlier .ensures .1,
+      ),
     )
 
 walk-returns : (t : ℕ) → walk-lts.Need-returns (newest-reads.Asked, newest-reads.Learnt, earlier-reads.Asked, earlier-reads.Learnt, walk-below t, walk.Post) (walk-at t) walk.Post
 walk-returns t c =
-    let start = c .before .before .before .before .before .before .before .before .before .before in
-    let s = start .args in
-    walked (s .memory .now) (s .u .now) (s .t) (s .s) (c .before .before .before .before .before .before .newest .result) (c .before .before .before .before .earlier .result) (c .before .before .walk .last .1 .1 .1 .0)
-    (c .before .before .before .before .before .before .before .if1 .taken) (start .pre .1 .1) (c .before .before .before .before .before .before .newest .ensures) (c .before .before .before .before .earlier .ensures .0) (c .before .before .walk .ensures)
+    let start = c .before .before .before .before .before .before in
+    let s = start .args in (
+      walked (s .memory .now) (s .u .now) (s .t) (s .s) (c .before .before .before .before .newest .result) (c .before .before .earlier .result) (c .walk .last .1 .1 .1 .0)
+          (c .before .before .before .before .before .if1 .taken) (omega (arith, start .pre .1 .0, start .pre .1 .1)) (c .before .before .before .before .newest .ensures) (c .before .before .earlier .ensures .0) (c .walk .ensures .0),
+      c .walk .ensures .1,
+    )
 
 walk-returns-2 : (t : ℕ) → walk-lts.Need-returns-2 (newest-reads.Asked, newest-reads.Learnt, earlier-reads.Asked, earlier-reads.Learnt, walk-below t, walk.Post) (walk-at t) walk.Post
 walk-returns-2 t c =
-    let s = c .before .before .before .args in
-    stayed (s .memory .now) (s .u .now) (s .t) (s .s) (c .if1 .left)
-
-walk-same-length : (t : ℕ) → walk-lts.Need-same-length (newest-reads.Asked, newest-reads.Learnt, earlier-reads.Asked, earlier-reads.Learnt, walk-below t, walk.Post) (walk-at t) walk.Post
-walk-same-length t c =
-    let s = c .before .before .before .before .before .before .before .before .before .before .args in
-    c .before .before .walk .kept .1 .1 .1 .0 ∙ length-set (s .u .now) (s .t - 1) (c .before .before .before .before .before .before .newest .result)
+    let s = c .before .args in
+    (stayed (s .memory .now) (s .u .now) (s .t) (s .s) (c .if1 .left), c .before .pre .1 .1)
 
 pub +walk-spec : {M : Type 1} → statement M
 +walk-spec =
@@ -66,6 +66,5 @@ pub +walk-spec : {M : Type 1} → statement M
     (λ c. search needs)
     (λ c κs. search needs)
     (walk-walk-requires t)
-    (walk-same-length t)
     (walk-returns t)
     (walk-returns-2 t))

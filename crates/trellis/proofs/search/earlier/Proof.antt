@@ -1,6 +1,6 @@
 -- `trellis::search::earlier` is right: below 16 the state behind s is 2(s mod 8) and the choice.
 use mathlib.Core.Path.{sym, ap, _∙_}
-use Prim.Native.Nat.{ℕ, _+_, _*_, _/_, _%_, _^_}
+use Prim.Native.Nat.{ℕ, _+_, _-_, _*_, _/_, _%_, _^_}
 use native.Mathlib.Omega.{arith}
 use borrow.Author.Needs.{needs}
 use Rattle.trellis.specs.laws.Steps.{behind}
@@ -10,7 +10,7 @@ use Rattle.trellis.proofs.search.earlier.Tie as tie
 returns : tie.Need-returns
 returns c =
     let s = c .before .args in (
-      ap (λ (o : ℕ). 2 * (s .s % 8) + o) (c .widened .ensures) ∙ sym (behind (s .s) (c .before .pre) (s .word / 2 ^ s .s % 2)),
+      ap (λ (o : ℕ). 2 * (s .s % 8) + o) (c .widened .ensures) ∙ sym (behind (s .s) (c .before .pre) (s .word / 2 ^ (15 - s .s) % 2)),
       omega (arith, c .widened .ensures),
     )
 
@@ -18,6 +18,7 @@ pub earlier-spec : {M : Type 1} → statement M
 earlier-spec =
     tie.close
     (tie.spec
+    (λ c. search needs)
     (λ c. search needs)
     (λ c. search needs)
     (λ c. search needs)

@@ -1,0 +1,149 @@
+//! Lists of bits as they may be received: random, altered, or made to tie.
+
+use crate::coding::convolve;
+use crate::random::Random;
+
+/// Random bits.
+pub fn random_bits(random: &mut Random, length: usize) -> Vec<u8> {
+    (0..length).map(|_| random.below(2) as u8).collect()
+}
+
+/// Adds bits to the beginning of a list, modulo 2.
+pub fn add(list: &mut [u8], bits: &[u8]) {
+    for k in 0..bits.len() {
+        list[k] = (list[k] + bits[k]) % 2;
+    }
+}
+
+/// So many of the indices, each at most once.
+fn choose(random: &mut Random, mut indices: Vec<usize>, number: usize) -> Vec<usize> {
+    let mut chosen = Vec::new();
+    while chosen.len() < number && !indices.is_empty() {
+        let index = random.below(indices.len());
+        chosen.push(indices.swap_remove(index));
+    }
+    chosen
+}
+
+/// Turns over so many of the bits at the indices.
+fn turn_over(random: &mut Random, list: &mut [u8], indices: Vec<usize>, number: usize) {
+    for k in choose(random, indices, number) {
+        list[k] = 1 - list[k];
+    }
+}
+
+/// Alters so many bits of a list, anywhere in it or all within a short stretch.
+pub fn alter(random: &mut Random, list: &mut [u8], number: usize) {
+    let whole = list.len();
+    let stretch = if random.one_in(4) {
+        whole.min(2 * number + 2)
+    } else {
+        whole
+    };
+    let first = random.below(whole - stretch + 1);
+    turn_over(random, list, (first..first + stretch).collect(), number);
+}
+
+/// n bits, the last four 0, with an even number of ones that stand near each other.
+fn short_difference(random: &mut Random, n: usize) -> Vec<u8> {
+    let mut u = vec![0; n];
+    let free = n.saturating_sub(4);
+    if free < 2 {
+        return u;
+    }
+    let span = free.min(2 + random.below(7));
+    let first = random.below(free - span + 1);
+    let last = first + span - 1;
+    for k in first + 1..last {
+        u[k] = random.below(2) as u8;
+    }
+    u[first] = 1;
+    u[last] = 1;
+    if u.iter().filter(|&&bit| bit == 1).count() % 2 == 1 {
+        u[first + 1] = 1 - u[first + 1];
+    }
+    u
+}
+
+/// Moves a coded candidate of n bits half of the way to another one.
+pub fn move_midway(random: &mut Random, list: &mut [u8], n: usize) {
+    // Each one of u makes seven ones of c, so an even number of ones makes an even number.
+    let difference = convolve(&short_difference(random, n));
+    let places: Vec<usize> = (0..2 * n).filter(|&k| difference[k] == 1).collect();
+    let half = places.len() / 2;
+    turn_over(random, list, places, half);
+}
+
+/// All zeros or all ones, with a few bits turned over.
+pub fn few_turned(random: &mut Random, length: usize) -> Vec<u8> {
+    let mut list = vec![random.below(2) as u8; length];
+    let number = random.below(9);
+    alter(random, &mut list, number);
+    list
+}
+
+/// One to eight bits, over and over.
+pub fn pattern(random: &mut Random, length: usize) -> Vec<u8> {
+    let period = 1 + random.below(8);
+    let bits = random_bits(random, period);
+    (0..length).map(|k| bits[k % period]).collect()
+}
+
+#[cfg(test)]
+mod tests {
+    use super::*;
+
+    /// The number of ones.
+    fn ones(bits: &[u8]) -> usize {
+        bits.iter().filter(|&&bit| bit == 1).count()
+    }
+
+    #[test]
+    fn so_many_bits_are_altered() {
+        let mut random = Random::new(30);
+        for number in 0..=20 {
+            for _ in 0..20 {
+                let mut list = vec![0; 36];
+                alter(&mut random, &mut list, number);
+                assert_eq!(ones(&list), number);
+            }
+        }
+        // Not more than there are.
+        let mut list = vec![0; 8];
+        alter(&mut random, &mut list, 20);
+        assert_eq!(list, [1; 8]);
+        alter(&mut random, &mut [], 20);
+    }
+
+    #[test]
+    fn differences_have_an_even_number_of_ones_and_four_last_zeros() {
+        let mut random = Random::new(31);
+        for n in 6..=40 {
+            for _ in 0..20 {
+                let u = short_difference(&mut random, n);
+                assert!(ones(&u) >= 2);
+                assert_eq!(ones(&u) % 2, 0);
+                assert_eq!(u[n - 4..], [0; 4]);
+                assert_eq!(ones(&convolve(&u)) % 2, 0);
+            }
+        }
+        assert_eq!(short_difference(&mut random, 5), [0; 5]);
+        assert_eq!(short_difference(&mut random, 2), [0; 2]);
+    }
+
+    #[test]
+    fn a_sum_of_lists() {
+        let mut list = vec![0, 1, 0, 1, 1];
+        add(&mut list, &[0, 0, 1, 1]);
+        assert_eq!(list, [0, 1, 1, 0, 1]);
+    }
+
+    #[test]
+    fn patterns_have_a_period_of_at_most_eight() {
+        let mut random = Random::new(32);
+        for _ in 0..100 {
+            let list = pattern(&mut random, 36);
+            assert!((1..=8).any(|period| list[..36 - period] == list[period..]));
+        }
+    }
+}

@@ -1,0 +1,227 @@
+//! Random kit lines for the trellis view: more than half are valid.
+
+use crate::coding::convolve;
+use crate::lines::{self, Request};
+use crate::lists;
+use crate::random::Random;
+
+/// One random view line, without its newline; of a hundred, seventy are views.
+pub fn line(random: &mut Random) -> Vec<u8> {
+    match random.below(100) {
+        0..=65 => valid(random).line(),
+        66..=69 => of_nothing(random),
+        70..=79 => wrong_length(random),
+        80..=86 => wrong_bits(random),
+        87..=90 => both_wrong(random),
+        91..=93 => wrong_fields(random),
+        94..=95 => wrong_word(random),
+        96..=97 => long_line(random),
+        _ => garbage(random),
+    }
+}
+
+/// The request to view these characters.
+fn view_of(bits: Vec<u8>) -> Request {
+    Request {
+        word: "trellis",
+        identity: Vec::new(),
+        bits,
+    }
+}
+
+/// A view of up to 228 pairs.
+fn valid(random: &mut Random) -> Request {
+    let t = pairs(random);
+    let list = received(random, t);
+    view_of(list.iter().map(|bit| b'0' + bit).collect())
+}
+
+/// The number of pairs: few, those of the blocks and their neighbours, or any up to 228.
+fn pairs(random: &mut Random) -> usize {
+    match random.below(10) {
+        0..=2 => random.below(13),
+        3 | 4 => 13 + random.below(30),
+        5 | 6 => random.pick(&[17, 18, 19, 38, 39, 40, 188, 189, 190, 227, 228, 228]),
+        _ => random.below(229),
+    }
+}
+
+/// The bits of t pairs: random, altered, midway, nearly equal, or a pattern.
+fn received(random: &mut Random, t: usize) -> Vec<u8> {
+    let mut list = convolve(&lists::random_bits(random, t));
+    match random.below(10) {
+        0..=2 => return lists::random_bits(random, 2 * t),
+        3 => return lists::few_turned(random, 2 * t),
+        4 => return lists::pattern(random, 2 * t),
+        5 => lists::move_midway(random, &mut list, t),
+        _ => {
+            let number = random.pick(&[0, 1, 2, 3, 5, 8, 13, 20]);
+            lists::alter(random, &mut list, number);
+        }
+    }
+    list
+}
+
+/// The view of nothing, with an empty argument or with none.
+fn of_nothing(random: &mut Random) -> Vec<u8> {
+    random.pick(&[&b"trellis"[..], b"trellis "]).to_vec()
+}
+
+/// An odd length, or one over 456; the line has room for 992.
+fn another_length(random: &mut Random) -> usize {
+    match random.below(6) {
+        0 => random.pick(&[1, 3, 455, 457]),
+        1 => random.pick(&[458, 460, 464, 512, 912]),
+        2 => 457 + random.below(536),
+        _ => 2 * random.below(228) + 1,
+    }
+}
+
+/// Characters of bits in a wrong number.
+fn in_wrong_number(random: &mut Random) -> Vec<u8> {
+    let length = another_length(random);
+    let mut bits = valid(random).bits;
+    bits.truncate(length);
+    let missing = length - bits.len();
+    bits.extend(lines::good_bits(random, missing));
+    bits
+}
+
+/// Refusal 1: an odd length, or one over 456.
+fn wrong_length(random: &mut Random) -> Vec<u8> {
+    view_of(in_wrong_number(random)).line()
+}
+
+/// Refusal 2: wrong characters among one pair or more.
+fn wrong_bits(random: &mut Random) -> Vec<u8> {
+    let mut bits = valid(random).bits;
+    if bits.is_empty() {
+        bits = b"01".to_vec();
+    }
+    lines::spoil(random, &mut bits);
+    view_of(bits).line()
+}
+
+/// Refusal 1 before 2: the length and some characters are wrong.
+fn both_wrong(random: &mut Random) -> Vec<u8> {
+    let mut bits = in_wrong_number(random);
+    lines::spoil(random, &mut bits);
+    view_of(bits).line()
+}
+
+/// Two or more arguments, or spaces where none belong.
+fn wrong_fields(random: &mut Random) -> Vec<u8> {
+    let request = valid(random);
+    let line = request.line();
+    match random.below(7) {
+        0 => [b" ", &line[..]].concat(),
+        1 => [&line[..], b" "].concat(),
+        2 => [&line[..], b" ", &request.bits[..]].concat(),
+        3 => [b"trellis 0 ", &request.bits[..]].concat(),
+        4 => [b"trellis\t", &request.bits[..]].concat(),
+        5 => b"trellis  ".to_vec(),
+        _ => lines::double_space(random, &line),
+    }
+}
+
+/// An unknown word before good bits.
+fn wrong_word(random: &mut Random) -> Vec<u8> {
+    const UNKNOWN: [&[u8]; 6] = [b"trellis?", b"view", b"viterbi", b"", b"?trellis", b"t"];
+    let word = if random.one_in(2) {
+        random.pick(&UNKNOWN).to_vec()
+    } else {
+        lines::changed_word(random, "trellis")
+    };
+    valid(random).line_with(&word)
+}
+
+/// A line at the limit of 1,000 bytes or over it.
+fn long_line(random: &mut Random) -> Vec<u8> {
+    let beyond = 1002 + random.below(7000);
+    let length = random.pick(&[999, 1000, 1001, beyond]);
+    view_of(lines::good_bits(random, length - b"trellis ".len())).line()
+}
+
+/// Random bytes after the word, or a valid line with one byte changed.
+fn garbage(random: &mut Random) -> Vec<u8> {
+    let mut line = valid(random).line();
+    if random.one_in(2) {
+        for k in b"trellis ".len()..line.len() {
+            line[k] = random.any_byte();
+        }
+    } else {
+        let index = random.below(line.len());
+        line[index] = random.any_byte();
+    }
+    line
+}
+
+#[cfg(test)]
+mod tests {
+    use super::*;
+    use crate::kit::answer;
+
+    /// Every line of one sort is answered as its sort says.
+    fn all_are(made: fn(&mut Random) -> Vec<u8>, expected: &str) {
+        let mut random = Random::new(48);
+        for _ in 0..1000 {
+            let line = made(&mut random);
+            assert_eq!(
+                answer(&line),
+                expected,
+                "{}",
+                String::from_utf8_lossy(&line)
+            );
+        }
+    }
+
+    /// The answer gives sixteen numbers.
+    fn is_view(answer: &str) -> bool {
+        answer.split(' ').count() == 16
+    }
+
+    #[test]
+    fn each_wrong_sort_is_wrong_as_meant() {
+        all_are(wrong_length, "refused 1");
+        all_are(wrong_bits, "refused 2");
+        all_are(both_wrong, "refused 1");
+        all_are(wrong_word, "?");
+        all_are(wrong_fields, "?");
+    }
+
+    #[test]
+    fn valid_requests_are_viewed() {
+        let mut random = Random::new(49);
+        for _ in 0..100 {
+            assert!(is_view(&answer(&valid(&mut random).line())));
+            assert!(is_view(&answer(&of_nothing(&mut random))));
+        }
+    }
+
+    #[test]
+    fn every_number_of_pairs_comes() {
+        let mut random = Random::new(50);
+        let mut seen = [false; 229];
+        for _ in 0..20_000 {
+            seen[pairs(&mut random)] = true;
+        }
+        assert_eq!(seen, [true; 229]);
+    }
+
+    #[test]
+    fn no_made_line_holds_a_newline() {
+        let mut random = Random::new(51);
+        for _ in 0..3000 {
+            assert!(!line(&mut random).contains(&10));
+        }
+    }
+
+    #[test]
+    fn more_than_half_of_the_lines_are_views() {
+        let mut random = Random::new(52);
+        let views = (0..200)
+            .filter(|_| is_view(&answer(&line(&mut random))))
+            .count();
+        assert!(views > 120);
+    }
+}
