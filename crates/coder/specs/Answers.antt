@@ -6,8 +6,8 @@ use mathlib.Core.Path.{_≡_}
 use Prim.Native.Nat.{ℕ}
 use Rattle.coder.specs.declared.Refusal.{Refusal}
 use Rattle.coder.specs.declared.Refusal.the-variants.{Length, NotBits, Identity}
-use Rattle.coder.specs.declared.Sent.{Sent}
-use Rattle.coder.specs.declared.Sent.the-variants.{Done, Refused}
+use Rattle.coder.specs.declared.Told.{Told}
+use Rattle.coder.specs.declared.Told.the-variants.{Done, Refused}
 
 -- 01, Numbers given for a no: 1 a lent buffer has another length, 2 a byte read as a bit is over 1, 3 the identity is over 63
 abbrev pub numberOf : Refusal → ℕ
@@ -16,12 +16,12 @@ numberOf NotBits = 2
 numberOf Identity = 3
 
 -- the number that is given, if one is: a send that is done returns none
-abbrev pub numberGiven : Sent → Option ℕ
+abbrev pub numberGiven : Told → Option ℕ
 numberGiven Done = none
 numberGiven (Refused r) = some (numberOf r)
 
 -- 01: where several apply, 1, 2, 3. Are the lengths right, are all bytes bits, is the identity at most 63?
-unfoldable pub judged : Bool → Bool → Bool → Sent
+unfoldable pub judged : Bool → Bool → Bool → Told
 judged false bits identity = Refused Length
 judged true false identity = Refused NotBits
 judged true true false = Refused Identity
@@ -29,18 +29,18 @@ judged true true true = Done
 
 -- an answer, and what the lent buffer then holds
 pub record Answer : Type 0 where
-  pub told : Sent
+  pub told : Told
   pub left : List ℕ
 
 -- done: what is sent stands in the buffer; refused: the buffer stands as before
-unfoldable pub leaves : Sent → List ℕ → List ℕ → List ℕ
+unfoldable pub leaves : Told → List ℕ → List ℕ → List ℕ
 leaves Done sent before = sent
 leaves (Refused r) sent before = before
 
-unfoldable pub answered : Sent → List ℕ → List ℕ → Answer
+unfoldable pub answered : Told → List ℕ → List ℕ → Answer
 answered told sent before = record { told = told; left = leaves told sent before }
 
 -- a contract: the result and the buffer at the return are the answer's
-pub record Meets (a : Answer) (r : Sent) (after : List ℕ) : Type 0 where
+pub record Meets (a : Answer) (r : Told) (after : List ℕ) : Type 0 where
   pub told : r ≡ a .told
   pub left : after ≡ a .left

@@ -1,10 +1,11 @@
--- The whole answer of each sending entry (01, The bench and its edges), of what it reads and of what its lent buffer held before.
-use mathlib.Core.Bool.{Bool}
+-- The whole answer of each entry (01, The bench and its edges), of what it reads and of what its lent buffer held before.
+use mathlib.Core.Bool.{Bool, true}
 use mathlib.Core.List.{List}
-use Prim.Native.Nat.{ℕ}
+use Prim.Native.Nat.{ℕ, _/_, _%_}
 use lib.Dec.{eqb, leb}
 use lib.ListN.{length}
-use Rattle.bits.specs.Bits.{both, allBits}
+use Rattle.bits.specs.Bits.{both, allBits, tab}
+use Rattle.trellis.specs.Nearest.{row}
 use Rattle.coder.specs.Answers.{Answer, judged, answered}
 use Rattle.coder.specs.Blocks.{speechBlock, controlBlock, sacchMessage, accessBurst, schBurst}
 
@@ -35,3 +36,15 @@ accessSent identity d e = entry 8 36 identity d (accessBurst identity d) e
 -- SCH: 25 to 78
 unfoldable pub schSent : List ℕ → List ℕ → Answer
 schSent d e = entry 25 78 0 d (schBurst d) e
+
+-- ---- trellis view: reads 2t bytes, t from 0 to 228; an odd length, or one over 456, is refusal 1
+abbrev pub viewLength : List ℕ → Bool
+viewLength r = both (eqb (length r % 2) 0) (leb (length r) 456)
+
+-- sixteen times 65,535: the row where no bits end in any state, and what a refusal gives
+unfoldable pub unreached : List ℕ
+unreached = tab 16 (λ s. 65535)
+
+-- what is told, and the sixteen numbers after all pairs of r
+unfoldable pub trellisViewed : List ℕ → Answer
+trellisViewed r = answered (judged (viewLength r) (allBits r) true) (row r (length r / 2)) unreached

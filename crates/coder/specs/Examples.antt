@@ -4,10 +4,14 @@ use mathlib.Core.List.{List, [], _∷_}
 use mathlib.Core.Path.{_≡_, refl}
 use Prim.Native.Nat.{ℕ, zero, suc, _+_, _%_}
 use lib.Dec.{eqb}
-use Rattle.bits.specs.Bits.{pick, both, tab, tabFrom, add, zeros, ones, digits}
+use Rattle.bits.specs.Bits.{pick, both, largest, allBits, tab, tabFrom, add, zeros, ones, digits}
 use Rattle.parity.specs.Division.{occurs, product, lower, divide, remainder, parity, speechG, accessG}
-use Rattle.trellis.specs.Pairs.{back, first, second, codedAt, coded}
+use Rattle.trellis.specs.Pairs.{back, first, second, codedAt, coded, pairOf}
+use Rattle.register.specs.Register.{from, bit, way, best}
+use Rattle.trellis.specs.Nearest.{differ, pairCost, rowAt, row}
 use Rattle.burst.specs.Places.{placeOf, eOf, eAt}
+use Rattle.coder.specs.Answers.{judged, answered, leaves}
+use Rattle.coder.specs.Entries.{unreached, trellisViewed}
 use Rattle.coder.specs.Blocks.{speechP, speechUAt, speechU, speechBlock, colour, accessU, accessBurst}
 
 abbrev pub same : List ℕ → List ℕ → Bool
@@ -51,6 +55,8 @@ table =
     ∷ is (streamPlace 455) (7 ∷ 17 ∷ 17 ∷ [])
     ∷ is (sacchPlace 4) (0 ∷ 51 ∷ [])
     ∷ is (sacchPlace 455) (3 ∷ 17 ∷ [])
+    ∷ is (trellisViewed (1 ∷ 1 ∷ []) .left) (tab 16 (λ s. pick (eqb s 0) 2 (pick (eqb s 8) 0 65535)))
+    ∷ is (trellisViewed [] .left) (tab 16 (λ s. pick (eqb s 0) 0 65535))
     ∷ []
 
 unfoldable pub allHold : List Example → Bool
@@ -58,5 +64,5 @@ allHold [] = true
 allHold (x ∷ xs) = both (same (x .computed) (x .said)) (allHold xs)
 
 pub examples : allHold table ≡ true
-unfolding allHold table tab tabFrom add zeros ones digits occurs product lower divide remainder parity speechG accessG back first second codedAt coded placeOf eOf eAt speechP speechUAt speechU speechBlock colour accessU accessBurst
+unfolding allHold table tab tabFrom add zeros ones digits occurs product lower divide remainder parity speechG accessG back first second codedAt coded placeOf eOf eAt speechP speechUAt speechU speechBlock colour accessU accessBurst from bit way best pairOf differ pairCost rowAt row judged answered leaves allBits largest unreached trellisViewed
 examples = refl

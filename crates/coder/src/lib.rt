@@ -10,7 +10,8 @@ ghost use lib.Dec.{eqb, leb};
 ghost use lib.ListN.{length};
 ghost use Rattle.bits.specs.Bits.{allBits, both};
 ghost use Rattle.coder.specs.Answers.{Meets, judged, numberOf};
-ghost use Rattle.coder.specs.Entries.{speechSent, controlSent, sacchSent, accessSent, schSent};
+ghost use Rattle.coder.specs.Entries.{speechSent, controlSent, sacchSent, accessSent, schSent, unreached, trellisViewed};
+ghost use Rattle.coder.specs.declared.Told.the-variants.{Refused};
 
 // Why a call is refused (01, Numbers given for a no).
 pub enum Refusal {
@@ -22,10 +23,16 @@ pub enum Refusal {
     Identity,
 }
 
-// What a sending entry answers.
-pub enum Sent {
+// What an entry says of its call.
+pub enum Told {
     Done,
     Refused(Refusal),
+}
+
+// The trellis view: the sixteen numbers by state; all are 65,535 where the call is refused.
+pub struct View {
+    pub told: Told,
+    pub row: [u16; 16],
 }
 
 // 01's number of a refusal.
@@ -40,75 +47,104 @@ pub fn number(r: Refusal) -> u8
 }
 
 // The first refusal that applies to an entry that reads `reads` bits into `writes` bytes, or none.
-fn judge(d: &[u8], reads: usize, out: usize, writes: usize, identity: u8) -> Sent
+fn judge(d: &[u8], reads: usize, out: usize, writes: usize, identity: u8) -> Told
     ensures { λ r. ⌜ r ≡ judged (both (eqb (length (now (d .entry))) reads) (eqb out writes)) (allBits (now (d .entry))) (leb identity 63) ⌝ }
 {
     if d.len() != reads {
-        return Sent::Refused(Refusal::Length);
+        return Told::Refused(Refusal::Length);
     }
     if out != writes {
-        return Sent::Refused(Refusal::Length);
+        return Told::Refused(Refusal::Length);
     }
     if !bits::are_bits(d) {
-        return Sent::Refused(Refusal::NotBits);
+        return Told::Refused(Refusal::NotBits);
     }
     if identity > 63 {
-        return Sent::Refused(Refusal::Identity);
+        return Told::Refused(Refusal::Identity);
     }
-    Sent::Done
+    Told::Done
 }
 
 // Speech block: 260 bits to 456.
-pub fn send_speech(d: &[u8], c: &mut [u8]) -> Sent
+pub fn send_speech(d: &[u8], c: &mut [u8]) -> Told
     ensures { λ r. ⌜ Meets (speechSent (now (d .entry)) (now (c .entry))) r (now (c .exit)) ⌝ }
 {
     let told = judge(d, 260, c.len(), 456, 0);
-    if let Sent::Done = told {
+    if let Told::Done = told {
         speech::code(d, c);
     }
     told
 }
 
 // Control block (SACCH and FACCH): 184 bits to 456.
-pub fn send_control(d: &[u8], c: &mut [u8]) -> Sent
+pub fn send_control(d: &[u8], c: &mut [u8]) -> Told
     ensures { λ r. ⌜ Meets (controlSent (now (d .entry)) (now (c .entry))) r (now (c .exit)) ⌝ }
 {
     let told = judge(d, 184, c.len(), 456, 0);
-    if let Sent::Done = told {
+    if let Told::Done = told {
         block::code(parity::CONTROL, 40, 0, d, c);
     }
     told
 }
 
 // SACCH message: 184 bits to four bursts, 464.
-pub fn send_sacch(d: &[u8], e: &mut [u8]) -> Sent
+pub fn send_sacch(d: &[u8], e: &mut [u8]) -> Told
     ensures { λ r. ⌜ Meets (sacchSent (now (d .entry)) (now (e .entry))) r (now (e .exit)) ⌝ }
 {
     let told = judge(d, 184, e.len(), 464, 0);
-    if let Sent::Done = told {
+    if let Told::Done = told {
         sacch::spread(d, e);
     }
     told
 }
 
 // Access: the identity and 8 bits to 36.
-pub fn send_access(identity: u8, d: &[u8], e: &mut [u8]) -> Sent
+pub fn send_access(identity: u8, d: &[u8], e: &mut [u8]) -> Told
     ensures { λ r. ⌜ Meets (accessSent identity (now (d .entry)) (now (e .entry))) r (now (e .exit)) ⌝ }
 {
     let told = judge(d, 8, e.len(), 36, identity);
-    if let Sent::Done = told {
+    if let Told::Done = told {
         block::code(parity::ACCESS, 6, identity as u64, d, e);
     }
     told
 }
 
 // SCH: 25 bits to 78.
-pub fn send_sch(d: &[u8], e: &mut [u8]) -> Sent
+pub fn send_sch(d: &[u8], e: &mut [u8]) -> Told
     ensures { λ r. ⌜ Meets (schSent (now (d .entry)) (now (e .entry))) r (now (e .exit)) ⌝ }
 {
     let told = judge(d, 25, e.len(), 78, 0);
-    if let Sent::Done = told {
+    if let Told::Done = told {
         block::code(parity::SCH, 10, 0, d, e);
     }
     told
+}
+
+// Trellis view: 2t received bits, t from 0 to 228, to the fewest disagreements of any t bits that end in each state.
+pub fn view_trellis(r: &[u8]) -> View
+    ensures { λ v. ⌜ Meets (trellisViewed (now (r .entry))) (v .told) (v .row) ⌝ }
+{
+    if r.len() % 2 != 0 {
+        return unseen(Refusal::Length);
+    }
+    if r.len() > 456 {
+        return unseen(Refusal::Length);
+    }
+    if !bits::are_bits(r) {
+        return unseen(Refusal::NotBits);
+    }
+    View {
+        told: Told::Done,
+        row: trellis::view(r),
+    }
+}
+
+// A view that is refused.
+fn unseen(why: Refusal) -> View
+    ensures { λ v. ⌜ (v .told ≡ Refused why) × (v .row ≡ unreached) ⌝ }
+{
+    View {
+        told: Told::Refused(why),
+        row: [65535; 16],
+    }
 }

@@ -1,9 +1,10 @@
 // The answer of each verb to its arguments.
 use crate::fields::Number;
 use crate::fields::read_number;
-use coder::Sent;
+use coder::Told;
 use text::put_bits;
 use text::put_byte;
+use text::put_number;
 use text::put_refused;
 ghost use Prim.Native.Nat.{_≤_};
 ghost use mathlib.Core.Path.{_≡_};
@@ -69,14 +70,41 @@ pub fn sch(d: &[u8], out: &mut [u8]) -> usize
     put_sent(out, sent, &e)
 }
 
+// trellis R
+pub fn trellis(r: &[u8], out: &mut [u8]) -> usize
+    requires { ⌜ 1000 ≤ length (now out) ⌝ }
+    ensures { λ r. ⌜ r ≤ 1000 ⌝ }
+{
+    let view = coder::view_trellis(r);
+    let told = view.told;
+    let row = view.row;
+    match told {
+        Told::Done => put_row(out, row),
+        Told::Refused(refusal) => put_refused(out, 0, coder::number(refusal)),
+    }
+}
+
+// Sixteen numbers, parted by spaces.
+fn put_row(out: &mut [u8], row: [u16; 16]) -> usize
+    requires { ⌜ 1000 ≤ length (now out) ⌝ }
+    ensures { λ r. ⌜ r ≤ 1000 ⌝ }
+{
+    let mut n = put_number(out, 0, row[0] as u64);
+    for s in 1..16 {
+        n = put_byte(out, n, b' ');
+        n = put_number(out, n, row[s] as u64);
+    }
+    n
+}
+
 // The coded bits, or the refusal.
-fn put_sent(out: &mut [u8], sent: Sent, coded: &[u8]) -> usize
+fn put_sent(out: &mut [u8], sent: Told, coded: &[u8]) -> usize
     requires { ⌜ (length (now coded) ≤ 1000) × (1000 ≤ length (now out)) ⌝ }
     ensures { λ r. ⌜ r ≤ 1000 ⌝ }
 {
     match sent {
-        Sent::Done => put_bits(out, 0, coded),
-        Sent::Refused(refusal) => put_refused(out, 0, coder::number(refusal)),
+        Told::Done => put_bits(out, 0, coded),
+        Told::Refused(refusal) => put_refused(out, 0, coder::number(refusal)),
     }
 }
 

@@ -5,6 +5,7 @@ use crate::answers::put_unknown;
 use crate::answers::sacch;
 use crate::answers::sch;
 use crate::answers::speech;
+use crate::answers::trellis;
 use crate::fields::field;
 use crate::fields::fields;
 use text::read_bits;
@@ -17,6 +18,7 @@ enum Verb {
     Sacch,
     Access,
     Sch,
+    Trellis,
     Unknown,
 }
 
@@ -37,6 +39,9 @@ fn verb_of(word: &[u8]) -> Verb {
     if same(word, b"sch") {
         return Verb::Sch;
     }
+    if same(word, b"trellis") {
+        return Verb::Trellis;
+    }
     Verb::Unknown
 }
 
@@ -50,8 +55,19 @@ fn arguments(verb: Verb) -> usize
         Verb::Sacch => 1,
         Verb::Access => 2,
         Verb::Sch => 1,
+        Verb::Trellis => 1,
         Verb::Unknown => 0,
     }
+}
+
+// Has a line of n fields the arguments of its verb? `trellis` alone is the view of nothing.
+fn fits(verb: Verb, n: usize) -> bool {
+    if let Verb::Trellis = verb {
+        if n == 1 {
+            return true;
+        }
+    }
+    n == arguments(verb) + 1
 }
 
 // The answer to a line, without its newline.
@@ -63,13 +79,12 @@ pub fn answer(line: &[u8], out: &mut [u8]) -> usize
         return put_unknown(out);
     }
     let verb = verb_of(field(line, 0));
-    let last = arguments(verb);
-    if fields(line) != last + 1 {
+    if !fits(verb, fields(line)) {
         return put_unknown(out);
     }
     // the last argument is the one that is bits
     let mut d = [0u8; 1000];
-    let n = read_bits(field(line, last), &mut d);
+    let n = read_bits(field(line, arguments(verb)), &mut d);
     let bits = &d[0..n];
     match verb {
         Verb::Speech => speech(bits, out),
@@ -77,6 +92,7 @@ pub fn answer(line: &[u8], out: &mut [u8]) -> usize
         Verb::Sacch => sacch(bits, out),
         Verb::Access => access(field(line, 1), bits, out),
         Verb::Sch => sch(bits, out),
+        Verb::Trellis => trellis(bits, out),
         Verb::Unknown => put_unknown(out),
     }
 }

@@ -3,13 +3,13 @@ use mathlib.Core.List.{List}
 use mathlib.Core.Path.{_≡_}
 use Prim.Native.Nat.{ℕ}
 use Rattle.coder.specs.Answers.{Answer, Meets}
-use Rattle.coder.specs.Entries.{speechSent, controlSent, sacchSent, accessSent, schSent}
+use Rattle.coder.specs.Entries.{speechSent, controlSent, sacchSent, accessSent, schSent, trellisViewed}
 use Rattle.coder.specs.laws.Answers.{meets-once}
-use Rattle.coder.specs.declared.Sent.{Sent}
+use Rattle.coder.specs.declared.Told.{Told}
 
 -- at most one result, and one content of the buffer, meets the answer a
 abbrev pub Settled : Answer → Type 0
-Settled a = (r s : Sent) (x y : List ℕ) → Meets a r x → Meets a s y → (r ≡ s) × (x ≡ y)
+Settled a = (r s : Told) (x y : List ℕ) → Meets a r x → Meets a s y → (r ≡ s) × (x ≡ y)
 
 module _ (identity : ℕ) (d c : List ℕ) where
   pub speech-settled : Settled (speechSent d c)
@@ -26,3 +26,6 @@ module _ (identity : ℕ) (d c : List ℕ) where
 
   pub sch-settled : Settled (schSent d c)
   sch-settled = meets-once (schSent d c)
+
+  pub view-settled : Settled (trellisViewed d)
+  view-settled = meets-once (trellisViewed d)
