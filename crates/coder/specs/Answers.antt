@@ -28,8 +28,8 @@ judged true true false = Refused Identity
 judged true true true = Done
 
 -- an answer, and what the lent buffer then holds
-pub record Answer : Type 0 where
-  pub told : Told
+pub record Answer (A : Type 0) : Type 0 where
+  pub told : A
   pub left : List ℕ
 
 -- done: what is sent stands in the buffer; refused: the buffer stands as before
@@ -37,10 +37,10 @@ unfoldable pub leaves : Told → List ℕ → List ℕ → List ℕ
 leaves Done sent before = sent
 leaves (Refused r) sent before = before
 
-unfoldable pub answered : Told → List ℕ → List ℕ → Answer
+unfoldable pub answered : Told → List ℕ → List ℕ → Answer Told
 answered told sent before = record { told = told; left = leaves told sent before }
 
 -- a contract: the result and the buffer at the return are the answer's
-pub record Meets (a : Answer) (r : Told) (after : List ℕ) : Type 0 where
+pub record Meets {A : Type 0} (a : Answer A) (r : A) (after : List ℕ) : Type 0 where
   pub told : r ≡ a .told
   pub left : after ≡ a .left

@@ -7,6 +7,7 @@ use lib.ListN.{length}
 use Rattle.bits.specs.Bits.{both, allBits, tab}
 use Rattle.trellis.specs.Nearest.{row}
 use Rattle.coder.specs.Answers.{Answer, judged, answered}
+use Rattle.coder.specs.declared.Told.{Told}
 use Rattle.coder.specs.Blocks.{speechBlock, controlBlock, sacchMessage, accessBurst, schBurst}
 
 -- both lent buffers have the lengths of 01's table
@@ -14,27 +15,27 @@ abbrev pub lengths : List ℕ → ℕ → List ℕ → ℕ → Bool
 lengths d n c m = both (eqb (length d) n) (eqb (length c) m)
 
 -- an entry that reads n bits d, and an identity, and sends m bytes into a buffer that held c
-unfoldable pub entry : ℕ → ℕ → ℕ → List ℕ → List ℕ → List ℕ → Answer
+unfoldable pub entry : ℕ → ℕ → ℕ → List ℕ → List ℕ → List ℕ → Answer Told
 entry n m identity d sent c = answered (judged (lengths d n c m) (allBits d) (leb identity 63)) sent c
 
 -- speech block: 260 to 456. An entry that reads no identity has 0 in its place
-unfoldable pub speechSent : List ℕ → List ℕ → Answer
+unfoldable pub speechSent : List ℕ → List ℕ → Answer Told
 speechSent d c = entry 260 456 0 d (speechBlock d) c
 
 -- control block: 184 to 456
-unfoldable pub controlSent : List ℕ → List ℕ → Answer
+unfoldable pub controlSent : List ℕ → List ℕ → Answer Told
 controlSent d c = entry 184 456 0 d (controlBlock d) c
 
 -- SACCH message: 184 to 464
-unfoldable pub sacchSent : List ℕ → List ℕ → Answer
+unfoldable pub sacchSent : List ℕ → List ℕ → Answer Told
 sacchSent d e = entry 184 464 0 d (sacchMessage d) e
 
 -- access: identity and 8 to 36
-unfoldable pub accessSent : ℕ → List ℕ → List ℕ → Answer
+unfoldable pub accessSent : ℕ → List ℕ → List ℕ → Answer Told
 accessSent identity d e = entry 8 36 identity d (accessBurst identity d) e
 
 -- SCH: 25 to 78
-unfoldable pub schSent : List ℕ → List ℕ → Answer
+unfoldable pub schSent : List ℕ → List ℕ → Answer Told
 schSent d e = entry 25 78 0 d (schBurst d) e
 
 -- ---- trellis view: reads 2t bytes, t from 0 to 228; an odd length, or one over 456, is refusal 1
@@ -46,5 +47,5 @@ unfoldable pub unreached : List ℕ
 unreached = tab 16 (λ s. 65535)
 
 -- what is told, and the sixteen numbers after all pairs of r
-unfoldable pub trellisViewed : List ℕ → Answer
+unfoldable pub trellisViewed : List ℕ → Answer Told
 trellisViewed r = answered (judged (viewLength r) (allBits r) true) (row r (length r / 2)) unreached

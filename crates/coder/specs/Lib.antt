@@ -1,5 +1,6 @@
 pub mod Blocks
 pub mod Answers
 pub mod Entries
+pub mod Received
 pub mod Examples
 pub mod laws

@@ -4,3 +4,4 @@ pub mod Blocks
 pub mod Speech
 pub mod Settled
 pub mod Order
+pub mod Heard

@@ -29,6 +29,15 @@ pub enum Told {
     Refused(Refusal),
 }
 
+// What a receiving entry says of its call.
+pub enum Heard {
+    // the block, and in how many places it disagrees with what was received
+    Good(u16),
+    Refused(Refusal),
+    // 8: the parity is bad; with the count
+    Bad(u16),
+}
+
 // The trellis view: the sixteen numbers by state; all are 65,535 where the call is refused.
 pub struct View {
     pub told: Told,

@@ -20,7 +20,7 @@ use Rattle.coder.specs.declared.Told.{Told}
 use Rattle.coder.specs.declared.Told.the-variants.{Done, Refused}
 
 -- once for every entry: at most one result, and one content of the lent buffer
-pub meets-once : (a : Answer) (r s : Told) (x y : List ℕ) → Meets a r x → Meets a s y → (r ≡ s) × (x ≡ y)
+pub meets-once : {A : Type 0} (a : Answer A) (r s : A) (x y : List ℕ) → Meets a r x → Meets a s y → (r ≡ s) × (x ≡ y)
 meets-once a r s x y m n = (m .told ∙ sym (n .told), m .left ∙ sym (n .left))
 
 -- done means that every test held

@@ -8,8 +8,8 @@ use Rattle.coder.specs.laws.Answers.{meets-once}
 use Rattle.coder.specs.declared.Told.{Told}
 
 -- at most one result, and one content of the buffer, meets the answer a
-abbrev pub Settled : Answer → Type 0
-Settled a = (r s : Told) (x y : List ℕ) → Meets a r x → Meets a s y → (r ≡ s) × (x ≡ y)
+abbrev pub Settled : {A : Type 0} → Answer A → Type 0
+Settled {A} a = (r s : A) (x y : List ℕ) → Meets a r x → Meets a s y → (r ≡ s) × (x ≡ y)
 
 module _ (identity : ℕ) (d c : List ℕ) where
   pub speech-settled : Settled (speechSent d c)

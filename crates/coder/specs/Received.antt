@@ -1,0 +1,78 @@
+-- What is received: the nearest block to the protected bits, the verdict of the parity bits within it, the bits to hand over.
+use mathlib.Core.Bool.{Bool, true, false}
+use mathlib.Core.List.{List, _++_}
+use mathlib.Core.Option.{Option, none, some}
+use mathlib.Core.Path.{_≡_}
+use Prim.Native.Nat.{ℕ, _+_, _-_, _*_, _/_, _%_}
+use lib.Dec.{eqb, leb}
+use lib.ListN.{length, getD, take, drop}
+use Rattle.bits.specs.Bits.{pick, tab, add, ones, digits, value, allBits}
+use Rattle.parity.specs.Division.{remainder, speechG, controlG, accessG, schG}
+use Rattle.trellis.specs.Nearest.{nearest, nearestCount}
+use Rattle.burst.specs.Places.{eAt}
+use Rattle.coder.specs.Answers.{Answer, judged, numberOf}
+use Rattle.coder.specs.Entries.{lengths}
+use Rattle.coder.specs.declared.Heard.{Heard}
+use Rattle.coder.specs.declared.Heard.the-variants as heard
+use Rattle.coder.specs.declared.Told.{Told}
+use Rattle.coder.specs.declared.Told.the-variants as told
+
+-- is what division of w by g leaves all ones? (01, Coding rules)
+unfoldable pub allOnes : List ℕ → List ℕ → Bool
+allOnes g w = eqb (value (remainder g w)) (value (ones (length g)))
+
+-- a block as it is heard: the bits to hand over, the verdict, the count of disagreements
+pub record Hearing : Type 0 where
+  pub bits : List ℕ
+  pub good : Bool
+  pub count : ℕ
+
+-- a block of n bits with its parity bits over g, to which the colour's bits are added: of the nearest u the first n bits; the verdict
+-- is taken from the parity bits within u, the colour being added once more, which takes it off
+unfoldable pub blockHeard : List ℕ → ℕ → ℕ → List ℕ → Hearing
+blockHeard g colour n c =
+    let u : List ℕ = nearest c (n + length g + 4) in
+    record { bits = take n u; good = allOnes g (take n u ++ add (take (length g) (drop n u)) (digits (length g) colour)); count = nearestCount c (n + length g + 4) }
+
+-- ---- what is told of it
+unfoldable pub verdict : Hearing → Heard
+verdict h = pick (h .good) (heard.Good (h .count)) (heard.Bad (h .count))
+
+unfoldable pub hearing : Told → Hearing → Heard
+hearing told.Done h = verdict h
+hearing (told.Refused r) h = heard.Refused r
+
+-- good: the bits are handed over; else the buffer stands as before
+unfoldable pub hands : Heard → List ℕ → List ℕ → List ℕ
+hands (heard.Good n) bits before = bits
+hands (heard.Refused r) bits before = before
+hands (heard.Bad n) bits before = before
+
+-- 01's number and count: good gives a count and no number, a refusal its number, a bad parity 8 and the count
+abbrev pub numberHeard : Heard → Option ℕ
+numberHeard (heard.Good n) = none
+numberHeard (heard.Refused r) = some (numberOf r)
+numberHeard (heard.Bad n) = some 8
+
+abbrev pub countHeard : Heard → Option ℕ
+countHeard (heard.Good n) = some n
+countHeard (heard.Refused r) = none
+countHeard (heard.Bad n) = some n
+
+-- an entry that reads n bits c, and an identity, and hands over m bits into a buffer that held d
+unfoldable pub reception : ℕ → ℕ → ℕ → List ℕ → Hearing → List ℕ → Answer Heard
+reception n m identity c h d =
+    let r : Heard = hearing (judged (lengths c n d m) (allBits c) (leb identity 63)) h in
+    record { told = r; left = hands r (h .bits) d }
+
+-- control block: 456 to 184
+unfoldable pub controlReceived : List ℕ → List ℕ → Answer Heard
+controlReceived c d = reception 456 184 0 c (blockHeard controlG 0 184 c) d
+
+-- access: identity and 36 to 8
+unfoldable pub accessReceived : ℕ → List ℕ → List ℕ → Answer Heard
+accessReceived identity e d = reception 36 8 identity e (blockHeard accessG identity 8 e) d
+
+-- SCH: 78 to 25
+unfoldable pub schReceived : List ℕ → List ℕ → Answer Heard
+schReceived e d = reception 78 25 0 e (blockHeard schG 0 25 e) d
