@@ -74,7 +74,14 @@ fn leaves_ones(generator: u64, degree: u32, colour: u64, w: &[u8]) -> bool
 }
 
 // The nearest block to c, which is laid out in `u`; its first bits are handed over where the parity bits within it are good.
-fn read_over(generator: u64, degree: u32, colour: u64, c: &[u8], u: &mut [u8], d: &mut [u8]) -> Heard
+fn read_over(
+    generator: u64,
+    degree: u32,
+    colour: u64,
+    c: &[u8],
+    u: &mut [u8],
+    d: &mut [u8],
+) -> Heard
     requires { ⌜ (Readable generator degree colour (now c) (now d)) × (length (now u) ≡ length (now d) + degree + 4) ⌝ }
     ensures { λ r. ⌜ HandedOver (blockHeard (digits degree generator) colour (length (now (d .entry))) (now (c .entry))) (now (d .entry)) r (now (d .exit)) ⌝ }
 {

@@ -11,6 +11,7 @@ ghost use lib.ListN.{length};
 ghost use Rattle.bits.specs.Bits.{allBits, both};
 ghost use Rattle.coder.specs.Answers.{Meets, judged, numberOf};
 ghost use Rattle.coder.specs.Entries.{speechSent, controlSent, sacchSent, accessSent, schSent, unreached, trellisViewed};
+ghost use Rattle.coder.specs.Received.{controlReceived, accessReceived, schReceived};
 ghost use Rattle.coder.specs.declared.Told.the-variants.{Refused};
 
 // Why a call is refused (01, Numbers given for a no).
@@ -127,6 +128,39 @@ pub fn send_sch(d: &[u8], e: &mut [u8]) -> Told
         block::code(parity::SCH, 10, 0, d, e);
     }
     told
+}
+
+// Control block received: 456 bits to 184.
+pub fn receive_control(c: &[u8], d: &mut [u8]) -> Heard
+    ensures { λ r. ⌜ Meets (controlReceived (now (c .entry)) (now (d .entry))) r (now (d .exit)) ⌝ }
+{
+    let told = judge(c, 456, d.len(), 184, 0);
+    match told {
+        Told::Done => block::read(parity::CONTROL, 40, 0, c, d),
+        Told::Refused(why) => Heard::Refused(why),
+    }
+}
+
+// Access received: the identity and 36 bits to 8.
+pub fn receive_access(identity: u8, e: &[u8], d: &mut [u8]) -> Heard
+    ensures { λ r. ⌜ Meets (accessReceived identity (now (e .entry)) (now (d .entry))) r (now (d .exit)) ⌝ }
+{
+    let told = judge(e, 36, d.len(), 8, identity);
+    match told {
+        Told::Done => block::read(parity::ACCESS, 6, identity as u64, e, d),
+        Told::Refused(why) => Heard::Refused(why),
+    }
+}
+
+// SCH received: 78 bits to 25.
+pub fn receive_sch(e: &[u8], d: &mut [u8]) -> Heard
+    ensures { λ r. ⌜ Meets (schReceived (now (e .entry)) (now (d .entry))) r (now (d .exit)) ⌝ }
+{
+    let told = judge(e, 78, d.len(), 25, 0);
+    match told {
+        Told::Done => block::read(parity::SCH, 10, 0, e, d),
+        Told::Refused(why) => Heard::Refused(why),
+    }
 }
 
 // Trellis view: 2t received bits, t from 0 to 228, to the fewest disagreements of any t bits that end in each state.

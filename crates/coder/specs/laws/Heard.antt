@@ -5,12 +5,12 @@ use mathlib.Core.Path.{_≡_, refl, sym, ap, ap₂, _∙_, subst}
 use Prim.Native.Nat.{ℕ, zero, suc, _+_, _-_, _*_, _≤_, _<_, _^_}
 use native.Mathlib.Omega.{arith}
 use lib.Bits.{bitXor}
-use lib.Dec.{eqb, lit<}
+use lib.Dec.{eqb, leb, lit<}
 use lib.ListN.{length, take, drop}
 use lib.Seq.{length-take-le, take-add, getD-drop}
 use lib.Pow.{pow-pos}
 use native.Mathlib.Nat.{pow-succ'}
-use Rattle.bits.specs.Bits.{Bits, pick, add, digits, value, ones, zeros}
+use Rattle.bits.specs.Bits.{Bits, allBits, pick, add, digits, value, ones, zeros}
 use Rattle.bits.specs.laws.Sum.{length-add, bits-add, add-assoc, bits-take, length-ones}
 use Rattle.bits.specs.laws.Value.{length-digits, bits-digits, value-digits, value-add}
 use Rattle.parity.specs.Division.{remainder}
@@ -19,9 +19,15 @@ use Rattle.bits.specs.laws.Parts.{length-lent}
 use Rattle.parity.specs.Asked.{Divisible}
 use Rattle.trellis.specs.Nearest.{Candidate, nearest, nearestCount}
 use Rattle.trellis.specs.laws.Nearest.{nearest-is}
-use Rattle.coder.specs.Received.{Hearing, allOnes, blockHeard, verdict, hands}
+use Rattle.coder.specs.Received.{Hearing, allOnes, blockHeard, verdict, hearing, hands, reception}
 use Rattle.coder.specs.declared.Heard.{Heard}
-use Rattle.coder.specs.declared.Heard.the-variants.{Good, Bad}
+use Rattle.coder.specs.declared.Heard.the-variants.{Good, Refused, Bad}
+use Rattle.coder.specs.declared.Told.{Told}
+use Rattle.coder.specs.declared.Told.the-variants as told
+use Rattle.coder.specs.declared.Refusal.{Refusal}
+use Rattle.coder.specs.Answers.{Meets, judged}
+use Rattle.coder.specs.Entries.{lengths}
+use Rattle.coder.specs.laws.Answers.{Ready}
 
 -- ---- a colour that is added to the parity bits is added to the remainder
 module _ (g d p b : List ℕ) (lp : length p ≡ length g) (lb : length b ≡ length g) (bd : Bits d) (bp : Bits p) (bb : Bits b) where
@@ -130,3 +136,34 @@ module _ (g r colour : ℕ) (c d u v : List ℕ) (asked : Readable g r colour c 
     handed-bad f =
         let h : Hearing = blockHeard (digits r g) colour (length d) c in
         record { told = ap Bad (count-is k ek) ∙ ap (λ (b : Bool). pick b (Good (h .count)) (Bad (h .count))) (sym f ∙ good-is t e); left = refl }
+
+-- ---- an entry that is ready may read, where its two lengths fit the degree
+pub readable : {c d : List ℕ} {n m i g colour : ℕ} (r : ℕ) → 0 < r → r ≤ 62 → g < 2 ^ r → colour < 2 ^ r → m + r + 4 ≤ 228 → n ≡ 2 * (m + r + 4) → Ready c d n m i → Readable g r colour c d
+readable r some narrow below within short long ready = record {
+  some = some;
+  narrow = narrow;
+  below = below;
+  within = within;
+  bits = ready .bits;
+  short = omega (arith, ready .writes, short);
+  long = ready .reads ∙ long ∙ ap (λ (k : ℕ). 2 * (k + r + 4)) (sym (ready .writes));
+}
+
+-- ---- the two ways in which a receiving entry ends
+module _ (n m i : ℕ) (c d : List ℕ) (h : Hearing) (j : Told) (e : j ≡ judged (lengths c n d m) (allBits c) (leb i 63)) where
+  pub reception-done : (r : Heard) (after : List ℕ) → j ≡ told.Done → HandedOver h d r after → Meets (reception n m i c h d) r after
+  unfolding reception hearing
+  reception-done r after f o =
+      let t : r ≡ hearing (judged (lengths c n d m) (allBits c) (leb i 63)) h = o .told ∙ ap (λ (x : Told). hearing x h) (sym f ∙ e) in
+      record { told = t; left = o .left ∙ ap (λ (x : Heard). hands x (h .bits) d) t }
+
+  pub reception-refused : (x : Refusal) → j ≡ told.Refused x → Meets (reception n m i c h d) (Refused x) d
+  unfolding reception hearing hands
+  reception-refused x f =
+      let t : Refused x ≡ hearing (judged (lengths c n d m) (allBits c) (leb i 63)) h = ap (λ (y : Told). hearing y h) (sym f ∙ e) in
+      record { told = t; left = ap (λ (y : Heard). hands y (h .bits) d) t }
+
+-- a generator by its number and by its name, a length by the buffer and by the table
+pub same-hearing : {g G : List ℕ} {n m : ℕ} → g ≡ G → n ≡ m → (c : List ℕ) (colour : ℕ) (d : List ℕ) (r : Heard) (after : List ℕ)
+    → HandedOver (blockHeard g colour n c) d r after → HandedOver (blockHeard G colour m c) d r after
+same-hearing eg en c colour d r after h = subst (λ (x : Hearing). HandedOver x d r after) (ap₂ (λ (x : List ℕ) (k : ℕ). blockHeard x colour k c) eg en) h
