@@ -46,3 +46,10 @@ burst i a p b q = tab 116 (cell i a p b q)
 -- four bursts, one after another
 unfoldable pub four : List ℕ → ℕ → List ℕ → ℕ → List ℕ
 four a p b q = burst 0 a p b q ++ (burst 1 a p b q ++ (burst 2 a p b q ++ burst 3 a p b q))
+
+-- 000, 4.1.4, at the receiver: bit k stands in burst k mod 4 of the four, at its e-index
+unfoldable pub gatheredAt : List ℕ → ℕ → ℕ
+gatheredAt e k = getD e (116 * (k % 4) + eAt k) 0
+
+unfoldable pub gathered : List ℕ → List ℕ
+gathered e = tab 456 (gatheredAt e)

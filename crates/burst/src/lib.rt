@@ -2,7 +2,7 @@
 ghost use mathlib.Core.Path.{_≡_};
 ghost use Prim.Native.Nat.{_≤_, _<_};
 ghost use lib.ListN.{length};
-ghost use Rattle.burst.specs.Places.{placeAt, bitAt, cell, burst, four};
+ghost use Rattle.burst.specs.Places.{placeAt, bitAt, cell, burst, four, eAt, gathered};
 
 // The place of e(x).
 fn place_at(x: usize) -> usize
@@ -56,4 +56,25 @@ pub fn fill_four(a: &[u8], p: u8, b: &[u8], q: u8, e: &mut [u8])
     fill(1, a, p, b, q, &mut e[116..232]);
     fill(2, a, p, b, q, &mut e[232..348]);
     fill(3, a, p, b, q, &mut e[348..464]);
+}
+
+// The e-index of bit k.
+fn e_at(k: usize) -> usize
+    requires { ⌜ k < 456 ⌝ }
+    ensures { λ r. ⌜ (r ≡ eAt k) × (r < 116) ⌝ }
+{
+    let j = 2 * (49 * k % 57) + k % 8 / 4;
+    if j < 57 { j } else { j + 2 }
+}
+
+// The coded bits of one block out of its four bursts.
+pub fn gather_four(e: &[u8], c: &mut [u8])
+    requires { ⌜ (length (now e) ≡ 464) × (length (now c) ≡ 456) ⌝ }
+    ensures { λ _. ⌜ now (c .exit) ≡ gathered (now (e .entry)) ⌝ }
+{
+    let mut k = 0;
+    while k < 456 {
+        c[k] = e[116 * (k % 4) + e_at(k)];
+        k += 1;
+    }
 }

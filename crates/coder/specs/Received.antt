@@ -9,7 +9,7 @@ use lib.ListN.{length, getD, take, drop}
 use Rattle.bits.specs.Bits.{pick, tab, add, ones, digits, value, allBits}
 use Rattle.parity.specs.Division.{remainder, speechG, controlG, accessG, schG}
 use Rattle.trellis.specs.Nearest.{nearest, nearestCount}
-use Rattle.burst.specs.Places.{eAt}
+use Rattle.burst.specs.Places.{gathered}
 use Rattle.coder.specs.Answers.{Answer, judged, numberOf}
 use Rattle.coder.specs.Entries.{lengths}
 use Rattle.coder.specs.declared.Heard.{Heard}
@@ -68,6 +68,10 @@ reception n m identity c h d =
 -- control block: 456 to 184
 unfoldable pub controlReceived : List ℕ → List ℕ → Answer Heard
 controlReceived c d = reception 456 184 0 c (blockHeard controlG 0 184 c) d
+
+-- SACCH message: 464 to 184; all 464 must be bits, the flags are not used
+unfoldable pub sacchReceived : List ℕ → List ℕ → Answer Heard
+sacchReceived e d = reception 464 184 0 e (blockHeard controlG 0 184 (gathered e)) d
 
 -- access: identity and 36 to 8
 unfoldable pub accessReceived : ℕ → List ℕ → List ℕ → Answer Heard

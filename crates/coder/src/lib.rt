@@ -11,7 +11,7 @@ ghost use lib.ListN.{length};
 ghost use Rattle.bits.specs.Bits.{allBits, both};
 ghost use Rattle.coder.specs.Answers.{Meets, judged, numberOf};
 ghost use Rattle.coder.specs.Entries.{speechSent, controlSent, sacchSent, accessSent, schSent, unreached, trellisViewed};
-ghost use Rattle.coder.specs.Received.{controlReceived, accessReceived, schReceived};
+ghost use Rattle.coder.specs.Received.{controlReceived, sacchReceived, accessReceived, schReceived};
 ghost use Rattle.coder.specs.declared.Told.the-variants.{Refused};
 
 // Why a call is refused (01, Numbers given for a no).
@@ -137,6 +137,17 @@ pub fn receive_control(c: &[u8], d: &mut [u8]) -> Heard
     let told = judge(c, 456, d.len(), 184, 0);
     match told {
         Told::Done => block::read(parity::CONTROL, 40, 0, c, d),
+        Told::Refused(why) => Heard::Refused(why),
+    }
+}
+
+// SACCH message received: four bursts, 464 bits, to 184.
+pub fn receive_sacch(e: &[u8], d: &mut [u8]) -> Heard
+    ensures { λ r. ⌜ Meets (sacchReceived (now (e .entry)) (now (d .entry))) r (now (d .exit)) ⌝ }
+{
+    let told = judge(e, 464, d.len(), 184, 0);
+    match told {
+        Told::Done => sacch::read(e, d),
         Told::Refused(why) => Heard::Refused(why),
     }
 }

@@ -2,10 +2,10 @@
 use mathlib.Core.Bool.{Bool, true, false}
 use mathlib.Core.List.{List, _++_}
 use mathlib.Core.Path.{_≡_, refl, sym, ap, ap₂, _∙_, subst}
-use Prim.Native.Nat.{ℕ, zero, suc, _+_, _-_, _*_, _≤_, _<_, _^_}
+use Prim.Native.Nat.{ℕ, zero, suc, _+_, _-_, _*_, _%_, _≤_, _<_, _^_}
 use native.Mathlib.Omega.{arith}
 use lib.Bits.{bitXor}
-use lib.Dec.{eqb, leb, lit<}
+use lib.Dec.{eqb, leb, lit<, lit≤}
 use lib.ListN.{length, take, drop}
 use lib.Seq.{length-take-le, take-add, getD-drop}
 use lib.Pow.{pow-pos}
@@ -16,6 +16,8 @@ use Rattle.bits.specs.laws.Value.{length-digits, bits-digits, value-digits, val
 use Rattle.parity.specs.Division.{remainder}
 use Rattle.parity.specs.laws.Division.{remainder-after}
 use Rattle.bits.specs.laws.Parts.{length-lent}
+use Rattle.bits.specs.laws.Tab.{bits-tab, length-tab}
+use Rattle.burst.specs.Places.{eAt, gatheredAt, gathered}
 use Rattle.parity.specs.Asked.{Divisible}
 use Rattle.trellis.specs.Nearest.{Candidate, nearest, nearestCount}
 use Rattle.trellis.specs.laws.Nearest.{nearest-is}
@@ -167,3 +169,16 @@ module _ (n m i : ℕ) (c d : List ℕ) (h : Hearing) (j : Told) (e : j ≡ judg
 pub same-hearing : {g G : List ℕ} {n m : ℕ} → g ≡ G → n ≡ m → (c : List ℕ) (colour : ℕ) (d : List ℕ) (r : Heard) (after : List ℕ)
     → HandedOver (blockHeard g colour n c) d r after → HandedOver (blockHeard G colour m c) d r after
 same-hearing eg en c colour d r after h = subst (λ (x : Hearing). HandedOver x d r after) (ap₂ (λ (x : List ℕ) (k : ℕ). blockHeard x colour k c) eg en) h
+
+-- ---- a SACCH message's control block is bits, and may be read
+pub message-readable : (e d c : List ℕ) → Bits e → length d ≡ 184 → c ≡ gathered e → Readable 0x4820009 40 0 c d
+unfolding gathered gatheredAt
+message-readable e d c be ld ec = record {
+  some = lit< tt;
+  narrow = lit≤ tt;
+  below = lit< tt;
+  within = lit< tt;
+  bits = subst Bits (sym ec) (bits-tab 456 (gatheredAt e) (λ k. be (116 * (k % 4) + eAt k)));
+  short = omega (arith, ld);
+  long = ap length ec ∙ length-tab 456 (gatheredAt e) ∙ ap (λ (k : ℕ). 2 * (k + 40 + 4)) (sym ld);
+}
