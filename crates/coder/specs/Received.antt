@@ -34,6 +34,17 @@ blockHeard g colour n c =
     let u : List ℕ = nearest c (n + length g + 4) in
     record { bits = take n u; good = allOnes g (take n u ++ add (take (length g) (drop n u)) (digits (length g) colour)); count = nearestCount c (n + length g + 4) }
 
+-- speech: d(2k) = u(k) and d(2k+1) = u(184-k) for k = 0..90, as 000, 3.1.2.1 b) has it the other way
+unfoldable pub speechDAt : List ℕ → ℕ → ℕ
+speechDAt u j = pick (eqb (j % 2) 0) (getD u (j / 2) 0) (getD u (184 - j / 2) 0)
+
+-- the protected bits are the first 378; the parity bits stand at u(91) to u(93), over the first 50 bits; the last 78 are as received
+unfoldable pub speechHeard : List ℕ → Hearing
+speechHeard c =
+    let u : List ℕ = nearest (take 378 c) 189 in
+    let d : List ℕ = tab 182 (speechDAt u) in
+    record { bits = d ++ drop 378 c; good = allOnes speechG (take 50 d ++ take 3 (drop 91 u)); count = nearestCount (take 378 c) 189 }
+
 -- ---- what is told of it
 unfoldable pub verdict : Hearing → Heard
 verdict h = pick (h .good) (heard.Good (h .count)) (heard.Bad (h .count))
@@ -64,6 +75,10 @@ unfoldable pub reception : ℕ → ℕ → ℕ → List ℕ → Hearing → List
 reception n m identity c h d =
     let r : Heard = hearing (judged (lengths c n d m) (allBits c) (leb identity 63)) h in
     record { told = r; left = hands r (h .bits) d }
+
+-- speech block: 456 to 260
+unfoldable pub speechReceived : List ℕ → List ℕ → Answer Heard
+speechReceived c d = reception 456 260 0 c (speechHeard c) d
 
 -- control block: 456 to 184
 unfoldable pub controlReceived : List ℕ → List ℕ → Answer Heard

@@ -5,3 +5,4 @@ pub mod Speech
 pub mod Settled
 pub mod Order
 pub mod Heard
+pub mod SpeechHeard

@@ -66,7 +66,7 @@ fn all_ones(degree: u32) -> u64
 }
 
 // Does division leave all ones of w, the parity bits at its end having the colour added?
-fn leaves_ones(generator: u64, degree: u32, colour: u64, w: &[u8]) -> bool
+pub(crate) fn leaves_ones(generator: u64, degree: u32, colour: u64, w: &[u8]) -> bool
     requires { ⌜ Divisible generator degree (now w) ⌝ }
     ensures { λ r. ⌜ r ≡ eqb (bitXor (value (remainder (digits degree generator) (now (w .entry)))) colour) (2 ^ degree - 1) ⌝ }
 {

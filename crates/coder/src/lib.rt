@@ -11,7 +11,7 @@ ghost use lib.ListN.{length};
 ghost use Rattle.bits.specs.Bits.{allBits, both};
 ghost use Rattle.coder.specs.Answers.{Meets, judged, numberOf};
 ghost use Rattle.coder.specs.Entries.{speechSent, controlSent, sacchSent, accessSent, schSent, unreached, trellisViewed};
-ghost use Rattle.coder.specs.Received.{controlReceived, sacchReceived, accessReceived, schReceived};
+ghost use Rattle.coder.specs.Received.{speechReceived, controlReceived, sacchReceived, accessReceived, schReceived};
 ghost use Rattle.coder.specs.declared.Told.the-variants.{Refused};
 
 // Why a call is refused (01, Numbers given for a no).
@@ -128,6 +128,17 @@ pub fn send_sch(d: &[u8], e: &mut [u8]) -> Told
         block::code(parity::SCH, 10, 0, d, e);
     }
     told
+}
+
+// Speech block received: 456 bits to 260.
+pub fn receive_speech(c: &[u8], d: &mut [u8]) -> Heard
+    ensures { λ r. ⌜ Meets (speechReceived (now (c .entry)) (now (d .entry))) r (now (d .exit)) ⌝ }
+{
+    let told = judge(c, 456, d.len(), 260, 0);
+    match told {
+        Told::Done => speech::read(c, d),
+        Told::Refused(why) => Heard::Refused(why),
+    }
 }
 
 // Control block received: 456 bits to 184.

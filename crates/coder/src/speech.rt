@@ -1,9 +1,14 @@
 // The speech block: class 1 reordered with its parity in the middle and coded, class 2 as it is (000, 3.1.2).
+use crate::Heard;
+ghost use mathlib.Core.List.{_++_};
 ghost use mathlib.Core.Path.{_≡_};
 ghost use Prim.Native.Nat.{_≤_, _<_};
-ghost use lib.ListN.{length};
+ghost use lib.ListN.{length, take, drop};
 ghost use Rattle.bits.specs.Bits.{Bits, tab};
 ghost use Rattle.coder.specs.Blocks.{speechP, speechUAt, speechBlock};
+ghost use Rattle.parity.specs.Division.{speechG};
+ghost use Rattle.coder.specs.Received.{allOnes, speechDAt, speechHeard};
+ghost use Rattle.coder.specs.laws.Heard.{HandedOver};
 
 // p(0), p(1), p(2): what the first 50 bits followed by ones leave.
 fn put_parity(d: &[u8], p: &mut [u8])
@@ -54,4 +59,68 @@ pub(crate) fn code(d: &[u8], c: &mut [u8])
     fill_u(d, &p, &mut u);
     trellis::code(&u, &mut c[0..378]);
     bits::copy(&d[182..260], &mut c[378..456]);
+}
+
+// d(2k) = u(k) and d(2k+1) = u(184-k).
+fn d_at(u: &[u8], j: usize) -> u8
+    requires { ⌜ (j < 182) × (length (now u) ≡ 189) ⌝ }
+    ensures { λ r. ⌜ r ≡ speechDAt (now (u .entry)) j ⌝ }
+{
+    if j % 2 == 0 { u[j / 2] } else { u[184 - j / 2] }
+}
+
+// The protected bits d(0)..d(181) out of u.
+fn fill_d(u: &[u8], d: &mut [u8])
+    requires { ⌜ (length (now u) ≡ 189) × (length (now d) ≡ 182) ⌝ }
+    ensures { λ _. ⌜ now (d .exit) ≡ tab 182 (speechDAt (now (u .entry))) ⌝ }
+{
+    let mut j = 0;
+    while j < 182 {
+        d[j] = d_at(u, j);
+        j += 1;
+    }
+}
+
+// What the verdict divides: the first 50 bits of d and the three parity bits within u.
+fn lay_check(d: &[u8], u: &[u8], w: &mut [u8])
+    requires { ⌜ (length (now d) ≡ 182) × (length (now u) ≡ 189) × (length (now w) ≡ 53) ⌝ }
+    ensures { λ _. ⌜ now (w .exit) ≡ take 50 (now (d .entry)) ++ take 3 (drop 91 (now (u .entry))) ⌝ }
+{
+    bits::copy(&d[0..50], &mut w[0..50]);
+    bits::copy(&u[91..94], &mut w[50..53]);
+}
+
+// Does it leave all ones?
+fn is_good(d: &[u8], u: &[u8]) -> bool
+    requires { ⌜ (Bits (now d)) × (Bits (now u)) × (length (now d) ≡ 182) × (length (now u) ≡ 189) ⌝ }
+    ensures { λ r. ⌜ r ≡ allOnes speechG (take 50 (now (d .entry)) ++ take 3 (drop 91 (now (u .entry)))) ⌝ }
+{
+    let mut w = [0u8; 53];
+    lay_check(d, u, &mut w);
+    crate::block::leaves_ones(parity::SPEECH, 3, 0, &w)
+}
+
+// The protected bits, and the other 78 as they were received.
+fn hand_over(first: &[u8], c: &[u8], d: &mut [u8])
+    requires { ⌜ (length (now first) ≡ 182) × (length (now c) ≡ 456) × (length (now d) ≡ 260) ⌝ }
+    ensures { λ _. ⌜ now (d .exit) ≡ now (first .entry) ++ drop 378 (now (c .entry)) ⌝ }
+{
+    bits::copy(first, &mut d[0..182]);
+    bits::copy(&c[378..456], &mut d[182..260]);
+}
+
+// The nearest block to the first 378 bits of c; it is handed over where its parity is good.
+pub(crate) fn read(c: &[u8], d: &mut [u8]) -> Heard
+    requires { ⌜ (Bits (now c)) × (length (now c) ≡ 456) × (length (now d) ≡ 260) ⌝ }
+    ensures { λ r. ⌜ HandedOver (speechHeard (now (c .entry))) (now (d .entry)) r (now (d .exit)) ⌝ }
+{
+    let mut u = [0u8; 189];
+    let count = trellis::nearest(&c[0..378], &mut u);
+    let mut first = [0u8; 182];
+    fill_d(&u, &mut first);
+    if !is_good(&first, &u) {
+        return Heard::Bad(count);
+    }
+    hand_over(&first, c, d);
+    Heard::Good(count)
 }

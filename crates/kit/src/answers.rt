@@ -1,6 +1,7 @@
 // The answer of each verb to its arguments.
 use crate::fields::Number;
 use crate::fields::read_number;
+use coder::Heard;
 use coder::Told;
 use text::put_bits;
 use text::put_byte;
@@ -68,6 +69,81 @@ pub fn sch(d: &[u8], out: &mut [u8]) -> usize
     let mut e = [0u8; 78];
     let sent = coder::send_sch(d, &mut e);
     put_sent(out, sent, &e)
+}
+
+// speech? R
+pub fn heard_speech(r: &[u8], out: &mut [u8]) -> usize
+    requires { ⌜ 1000 ≤ length (now out) ⌝ }
+    ensures { λ r. ⌜ r ≤ 1000 ⌝ }
+{
+    let mut d = [0u8; 260];
+    let heard = coder::receive_speech(r, &mut d);
+    put_heard(out, heard, &d)
+}
+
+// control? R
+pub fn heard_control(r: &[u8], out: &mut [u8]) -> usize
+    requires { ⌜ 1000 ≤ length (now out) ⌝ }
+    ensures { λ r. ⌜ r ≤ 1000 ⌝ }
+{
+    let mut d = [0u8; 184];
+    let heard = coder::receive_control(r, &mut d);
+    put_heard(out, heard, &d)
+}
+
+// sacch? R
+pub fn heard_sacch(r: &[u8], out: &mut [u8]) -> usize
+    requires { ⌜ 1000 ≤ length (now out) ⌝ }
+    ensures { λ r. ⌜ r ≤ 1000 ⌝ }
+{
+    let mut d = [0u8; 184];
+    let heard = coder::receive_sacch(r, &mut d);
+    put_heard(out, heard, &d)
+}
+
+// sch? R
+pub fn heard_sch(r: &[u8], out: &mut [u8]) -> usize
+    requires { ⌜ 1000 ≤ length (now out) ⌝ }
+    ensures { λ r. ⌜ r ≤ 1000 ⌝ }
+{
+    let mut d = [0u8; 25];
+    let heard = coder::receive_sch(r, &mut d);
+    put_heard(out, heard, &d)
+}
+
+// access? ID R
+pub fn heard_access(id: &[u8], r: &[u8], out: &mut [u8]) -> usize
+    requires { ⌜ 1000 ≤ length (now out) ⌝ }
+    ensures { λ r. ⌜ r ≤ 1000 ⌝ }
+{
+    match read_number(id) {
+        Number::Bad => put_unknown(out),
+        Number::Is(number) => {
+            let mut d = [0u8; 8];
+            let heard = coder::receive_access(identity(number), r, &mut d);
+            put_heard(out, heard, &d)
+        }
+    }
+}
+
+// The count and the bits, or the refusal; a bad parity has its count too.
+fn put_heard(out: &mut [u8], heard: Heard, d: &[u8]) -> usize
+    requires { ⌜ (length (now d) ≤ 900) × (1000 ≤ length (now out)) ⌝ }
+    ensures { λ r. ⌜ r ≤ 1000 ⌝ }
+{
+    match heard {
+        Heard::Good(count) => {
+            let n = put_number(out, 0, count as u64);
+            let m = put_byte(out, n, b' ');
+            put_bits(out, m, d)
+        }
+        Heard::Refused(refusal) => put_refused(out, 0, coder::number(refusal)),
+        Heard::Bad(count) => {
+            let n = put_refused(out, 0, 8);
+            let m = put_byte(out, n, b' ');
+            put_number(out, m, count as u64)
+        }
+    }
 }
 
 // trellis R

@@ -1,6 +1,11 @@
 // From a line to its answer: the word names a verb, the verb says how many arguments there are.
 use crate::answers::access;
 use crate::answers::control;
+use crate::answers::heard_access;
+use crate::answers::heard_control;
+use crate::answers::heard_sacch;
+use crate::answers::heard_sch;
+use crate::answers::heard_speech;
 use crate::answers::put_unknown;
 use crate::answers::sacch;
 use crate::answers::sch;
@@ -18,6 +23,11 @@ enum Verb {
     Sacch,
     Access,
     Sch,
+    HeardSpeech,
+    HeardControl,
+    HeardSacch,
+    HeardAccess,
+    HeardSch,
     Trellis,
     Unknown,
 }
@@ -39,6 +49,21 @@ fn verb_of(word: &[u8]) -> Verb {
     if same(word, b"sch") {
         return Verb::Sch;
     }
+    if same(word, b"speech?") {
+        return Verb::HeardSpeech;
+    }
+    if same(word, b"control?") {
+        return Verb::HeardControl;
+    }
+    if same(word, b"sacch?") {
+        return Verb::HeardSacch;
+    }
+    if same(word, b"access?") {
+        return Verb::HeardAccess;
+    }
+    if same(word, b"sch?") {
+        return Verb::HeardSch;
+    }
     if same(word, b"trellis") {
         return Verb::Trellis;
     }
@@ -55,6 +80,11 @@ fn arguments(verb: Verb) -> usize
         Verb::Sacch => 1,
         Verb::Access => 2,
         Verb::Sch => 1,
+        Verb::HeardSpeech => 1,
+        Verb::HeardControl => 1,
+        Verb::HeardSacch => 1,
+        Verb::HeardAccess => 2,
+        Verb::HeardSch => 1,
         Verb::Trellis => 1,
         Verb::Unknown => 0,
     }
@@ -92,6 +122,11 @@ pub fn answer(line: &[u8], out: &mut [u8]) -> usize
         Verb::Sacch => sacch(bits, out),
         Verb::Access => access(field(line, 1), bits, out),
         Verb::Sch => sch(bits, out),
+        Verb::HeardSpeech => heard_speech(bits, out),
+        Verb::HeardControl => heard_control(bits, out),
+        Verb::HeardSacch => heard_sacch(bits, out),
+        Verb::HeardAccess => heard_access(field(line, 1), bits, out),
+        Verb::HeardSch => heard_sch(bits, out),
         Verb::Trellis => trellis(bits, out),
         Verb::Unknown => put_unknown(out),
     }

@@ -61,7 +61,7 @@ pub record HandedOver (h : Hearing) (d : List ℕ) (r : Heard) (after : List ℕ
   pub told : r ≡ verdict h
   pub left : after ≡ hands r (h .bits) d
 
-value-ones : (r : ℕ) → value (ones r) ≡ 2 ^ r - 1
+pub value-ones : (r : ℕ) → value (ones r) ≡ 2 ^ r - 1
 unfolding value ones
 value-ones zero = refl
 value-ones (suc r) =
@@ -70,7 +70,7 @@ value-ones (suc r) =
     let long : length (ones r) ≡ r = length-ones r in
     ap₂ (λ (k x : ℕ). 1 * 2 ^ k + x) long (value-ones r) ∙ omega (arith, one, twice)
 
-bits-drop : (n : ℕ) (w : List ℕ) → Bits w → Bits (drop n w)
+pub bits-drop : (n : ℕ) (w : List ℕ) → Bits w → Bits (drop n w)
 bits-drop n w bw k = subst (λ (x : ℕ). x ≤ 1) (sym (getD-drop n w k 0)) (bw (n + k))
 
 -- ---- the nearest block v, of which `coder::block::read` tells

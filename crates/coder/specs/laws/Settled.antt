@@ -4,6 +4,7 @@ use mathlib.Core.Path.{_≡_}
 use Prim.Native.Nat.{ℕ}
 use Rattle.coder.specs.Answers.{Answer, Meets}
 use Rattle.coder.specs.Entries.{speechSent, controlSent, sacchSent, accessSent, schSent, trellisViewed}
+use Rattle.coder.specs.Received.{speechReceived, controlReceived, sacchReceived, accessReceived, schReceived}
 use Rattle.coder.specs.laws.Answers.{meets-once}
 use Rattle.coder.specs.declared.Told.{Told}
 
@@ -29,3 +30,18 @@ module _ (identity : ℕ) (d c : List ℕ) where
 
   pub view-settled : Settled (trellisViewed d)
   view-settled = meets-once (trellisViewed d)
+
+  pub speech-heard-settled : Settled (speechReceived c d)
+  speech-heard-settled = meets-once (speechReceived c d)
+
+  pub control-heard-settled : Settled (controlReceived c d)
+  control-heard-settled = meets-once (controlReceived c d)
+
+  pub sacch-heard-settled : Settled (sacchReceived c d)
+  sacch-heard-settled = meets-once (sacchReceived c d)
+
+  pub sch-heard-settled : Settled (schReceived c d)
+  sch-heard-settled = meets-once (schReceived c d)
+
+  pub access-heard-settled : Settled (accessReceived identity c d)
+  access-heard-settled = meets-once (accessReceived identity c d)

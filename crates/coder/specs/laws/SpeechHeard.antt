@@ -1,0 +1,102 @@
+-- What the receiving side of `coder::speech` needs: what the verdict divides, and the two parts that are handed over.
+use mathlib.Core.Bool.{Bool, true, false}
+use mathlib.Core.List.{List, _++_}
+use mathlib.Core.Path.{_≡_, refl, sym, ap, ap₂, _∙_, subst}
+use Prim.Native.Nat.{ℕ, _+_, _-_, _*_, _/_, _%_, _≤_, _<_, _^_}
+use native.Mathlib.Omega.{arith}
+use lib.Bits.{bitXor, xor-zero-r}
+use lib.Dec.{eqb, lit<, lit≤}
+use lib.ListN.{length, getD, take, drop, length-append, length-drop}
+use lib.Seq.{length-take-le, take-all}
+use Rattle.bits.specs.Bits.{Bits, pick, tab, digits, value, ones}
+use Rattle.bits.specs.laws.Parts.{put, put-two, length-lent}
+use Rattle.bits.specs.laws.Sum.{bits-append, bits-take}
+use Rattle.bits.specs.laws.Tab.{length-tab, bits-tab}
+use Rattle.bits.specs.laws.Value.{length-digits}
+use Rattle.parity.specs.Asked.{Divisible}
+use Rattle.parity.specs.Division.{remainder, speechG}
+use Rattle.parity.specs.laws.Generators.{speech-number}
+use Rattle.trellis.specs.Nearest.{Candidate, nearest, nearestCount}
+use Rattle.trellis.specs.laws.Nearest.{nearest-is}
+use Rattle.coder.specs.Received.{Hearing, allOnes, speechDAt, speechHeard, verdict, hands}
+use Rattle.coder.specs.laws.Heard.{HandedOver, bits-drop, value-ones}
+use Rattle.coder.specs.declared.Heard.{Heard}
+use Rattle.coder.specs.declared.Heard.the-variants.{Good, Bad}
+
+-- ---- 50 bits and 3
+pub laid-check : (d u e x y : List ℕ) → length d ≡ 182 → length e ≡ 53 → x ≡ take 50 d → y ≡ take 3 (drop 91 u) → put 50 3 y (put 0 50 x e) ≡ take 50 d ++ take 3 (drop 91 u)
+laid-check d u e x y ld le ex ey =
+    put-two e x y 50 3 50 (ap length ex ∙ length-take-le 50 d (omega (arith, ld))) refl le ∙ ap₂ (λ (a b : List ℕ). a ++ b) ex ey
+
+module _ (d u w : List ℕ) (bd : Bits d) (bu : Bits u) (ld : length d ≡ 182) (lu : length u ≡ 189) (ew : w ≡ take 50 d ++ take 3 (drop 91 u)) where
+  pub check-divisible : Divisible 0b011 3 w
+  check-divisible =
+      let a : length (take 50 d) ≡ 50 = length-take-le 50 d (omega (arith, ld)) in
+      let l : length w ≡ length (take 50 d) + length (take 3 (drop 91 u)) = ap length ew ∙ length-append (take 50 d) (take 3 (drop 91 u)) in
+      record {
+        some = lit< tt;
+        narrow = lit≤ tt;
+        below = lit< tt;
+        long = omega (arith, l, a);
+        bits = subst Bits (sym ew) (bits-append (take 50 d) (take 3 (drop 91 u)) (bits-take 50 d bd) (bits-take 3 (drop 91 u) (bits-drop 91 u bu)));
+      }
+
+  pub check-is : (t : Bool) → t ≡ eqb (bitXor (value (remainder (digits 3 0b011) w)) 0) 7 → t ≡ allOnes speechG (take 50 d ++ take 3 (drop 91 u))
+  unfolding allOnes
+  check-is t e =
+      let long : length speechG ≡ 3 = ap length (sym speech-number) ∙ length-digits 3 0b011 in
+      let seven : value (ones (length speechG)) ≡ 7 = ap (λ (k : ℕ). value (ones k)) long ∙ value-ones 3 in
+      e ∙ ap₂ eqb
+      (xor-zero-r (value (remainder (digits 3 0b011) w)) ∙ ap₂ (λ (g v : List ℕ). value (remainder g v)) speech-number ew)
+      (sym seven)
+
+-- ---- 182 bits and 78
+pub laid-speech : (f c e x y : List ℕ) → length f ≡ 182 → length c ≡ 456 → length e ≡ 260 → x ≡ f → y ≡ take 78 (drop 378 c) → put 182 78 y (put 0 182 x e) ≡ f ++ drop 378 c
+laid-speech f c e x y lf lc le ex ey =
+    let all : take 78 (drop 378 c) ≡ drop 378 c = take-all 78 (drop 378 c) (simp length-drop (omega (arith, lc))) in
+    put-two e x y 182 78 182 (ap length ex ∙ lf) refl le ∙ ap₂ (λ (a b : List ℕ). a ++ b) ex (ey ∙ all)
+
+-- ---- the nearest block v, its protected bits f, and how `coder::speech::read` ends
+module _ (c d v f : List ℕ) (bc : Bits c) (lc : length c ≡ 456) (ev : v ≡ nearest (take 378 c) 189) (ef : f ≡ tab 182 (speechDAt v)) where
+  candidate : Candidate 189 (nearest (take 378 c) 189)
+  candidate = nearest-is (take 378 c) 189 (lit≤ tt) (lit≤ tt) .candidate
+
+  pub bits-v : Bits v
+  bits-v = subst Bits (sym ev) (candidate .bits)
+
+  pub long-v : length v ≡ 189
+  long-v = ap length ev ∙ candidate .long
+
+  either : (b : Bool) (x y : ℕ) → x ≤ 1 → y ≤ 1 → pick b x y ≤ 1
+  either true x y h l = h
+  either false x y h l = l
+
+  bit-at : (j : ℕ) → speechDAt v j ≤ 1
+  unfolding speechDAt
+  bit-at j = either (eqb (j % 2) 0) (getD v (j / 2) 0) (getD v (184 - j / 2) 0) (bits-v (j / 2)) (bits-v (184 - j / 2))
+
+  pub bits-f : Bits f
+  bits-f = subst Bits (sym ef) (bits-tab 182 (speechDAt v) bit-at)
+
+  pub long-f : length f ≡ 182
+  long-f = ap length ef ∙ length-tab 182 (speechDAt v)
+
+  firsts : f ≡ tab 182 (speechDAt (nearest (take 378 c) 189))
+  firsts = ef ∙ ap (λ (x : List ℕ). tab 182 (speechDAt x)) ev
+
+  module _ (t : Bool) (e : t ≡ allOnes speechG (take 50 f ++ take 3 (drop 91 v))) (k : ℕ) (ek : k ≡ nearestCount (take 378 c) 189) where
+    good-is : t ≡ speechHeard c .good
+    unfolding speechHeard
+    good-is = e ∙ ap₂ (λ (x y : List ℕ). allOnes speechG (take 50 x ++ take 3 (drop 91 y))) firsts ev
+
+    told-is : (b : Bool) → t ≡ b → pick b (Good k) (Bad k) ≡ verdict (speechHeard c)
+    unfolding verdict speechHeard
+    told-is b h = ap₂ (λ (x : Bool) (n : ℕ). pick x (Good n) (Bad n)) (sym h ∙ good-is) ek
+
+    pub speech-good : (after : List ℕ) → t ≡ true → after ≡ f ++ drop 378 c → HandedOver (speechHeard c) d (Good k) after
+    unfolding hands speechHeard
+    speech-good after h ea = record { told = told-is true h; left = ea ∙ ap (λ (x : List ℕ). x ++ drop 378 c) firsts }
+
+    pub speech-bad : t ≡ false → HandedOver (speechHeard c) d (Bad k) d
+    unfolding hands
+    speech-bad h = record { told = told-is false h; left = refl }
