@@ -2,7 +2,7 @@
 use mathlib.Core.Bool.{Bool, true, false}
 use mathlib.Core.List.{List, [], _∷_}
 use mathlib.Core.Path.{_≡_, refl}
-use Prim.Native.Nat.{ℕ, zero, suc, _+_, _%_}
+use Prim.Native.Nat.{ℕ, suc, _%_}
 use lib.Dec.{eqb}
 use Rattle.bits.specs.Bits.{pick, both, largest, allBits, tab, tabFrom, add, zeros, ones, digits}
 use Rattle.parity.specs.Division.{occurs, product, lower, divide, remainder, parity, speechG, accessG}

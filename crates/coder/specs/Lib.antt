@@ -2,5 +2,6 @@ pub mod Blocks
 pub mod Answers
 pub mod Entries
 pub mod Received
+pub mod Promises
 pub mod Examples
 pub mod laws

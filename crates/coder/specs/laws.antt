@@ -6,3 +6,6 @@ pub mod Settled
 pub mod Order
 pub mod Heard
 pub mod SpeechHeard
+pub mod Restored
+pub mod SpeechRestored
+pub mod Promises

@@ -1,7 +1,6 @@
 -- A shift register of some bits, fed bit by bit from state 0, where each step has a cost. Nothing here is of a certain code: the
 -- number of states is 2 * half, so half is 2 ^ (m - 1) for a register of m bits, and the cost of a step goes by its number, the
 -- state before it and the bit.
-use mathlib.Core.Bool.{Bool}
 use mathlib.Core.List.{List, [], _∷_}
 use mathlib.Core.Logic.{_⊎_}
 use mathlib.Core.Path.{_≡_}

@@ -1,14 +1,13 @@
 -- The largest byte of a list says whether all are bits.
-use mathlib.Core.Bool.{Bool, true, false}
+use mathlib.Core.Bool.{true}
 use mathlib.Core.List.{List, [], _∷_, _++_}
-use mathlib.Core.Path.{_≡_, refl, sym, ap, _∙_}
-use Prim.Native.Nat.{ℕ, zero, suc, _+_, _≤_, _<_, max}
+use mathlib.Core.Path.{_≡_, sym, ap, _∙_}
+use Prim.Native.Nat.{ℕ, zero, suc, _≤_, _<_, max}
 use native.Mathlib.Nat.{max-zero, zero-max, le-trans, le-max-left, le-max-right}
 use native.Mathlib.Omega.{arith}
-use lib.Dec.{leb}
 use lib.ListN.{length, getD, take}
 use lib.Seq.{take-suc}
-use borrow.Author.Tests.{leb-true}
+use borrow.Author.Tests.{leb-true, le-leb}
 use Rattle.bits.specs.Bits.{largest, allBits, Bits}
 
 largest-snoc : (w : List ℕ) (b : ℕ) → largest (w ++ (b ∷ [])) ≡ max (largest w) b
@@ -29,3 +28,15 @@ at-most (b ∷ w) (suc k) = le-trans (at-most w k) (le-max-right b (largest w))
 pub all-bits : (w : List ℕ) → allBits w ≡ true → Bits w
 unfolding allBits
 all-bits w t k = le-trans (at-most w k) (leb-true (largest w) 1 t)
+
+not-over : (w : List ℕ) → Bits w → largest w ≤ 1
+unfolding largest
+not-over [] bw = omega arith
+not-over (b ∷ w) bw =
+    let h : b ≤ 1 = bw 0 in
+    let l : largest w ≤ 1 = not-over w (λ k. bw (suc k)) in
+    omega arith
+
+pub bits-all : (w : List ℕ) → Bits w → allBits w ≡ true
+unfolding allBits
+bits-all w bw = le-leb (largest w) 1 (not-over w bw)

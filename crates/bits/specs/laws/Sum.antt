@@ -1,10 +1,10 @@
 -- Sums of bit lists, place by place: their length, that they are bits, and that the sum is associative, can be swapped, and undoes itself.
 use mathlib.Core.List.{List, [], _∷_, _++_}
 use mathlib.Core.Path.{_≡_, refl, sym, ap, ap₂, _∙_}
-use Prim.Native.Nat.{ℕ, zero, suc, _+_, _%_, _≤_, _<_}
+use Prim.Native.Nat.{ℕ, zero, suc, _≤_, _<_}
 use native.Mathlib.Nat.{not-suc-le-zero, le-of-suc-le-suc}
 use native.Mathlib.Omega.{arith}
-use lib.ListN.{length, getD, take, drop, replicate, length-replicate, getD-replicate}
+use lib.ListN.{length, getD, take, drop, replicate, length-replicate}
 use Rattle.bits.specs.Bits.{Bits, sum, add, zeros, ones}
 
 -- ---- sums of bits
@@ -139,3 +139,12 @@ drop-add (suc k) (a ∷ s) (b ∷ w) e = drop-add k s w (omega (arith, e))
 -- two lists whose sum is nothing are one
 pub sum-nothing : (n : ℕ) (v w : List ℕ) → length v ≡ n → Bits v → Bits w → add v w ≡ zeros n → v ≡ w
 sum-nothing n v w l bv bw e = sym (add-nothing n v l bv) ∙ ap (λ (x : List ℕ). add v x) (sym e) ∙ add-twice v w bw
+
+-- what is added twice is gone
+pub add-self : (w : List ℕ) → Bits w → add w w ≡ zeros (length w)
+unfolding add zeros
+add-self [] bw = refl
+add-self (b ∷ w) bw =
+    let h : b ≤ 1 = bw 0 in
+    let e : sum b b ≡ 0 = omega arith in
+    ap₂ (λ (x : ℕ) (l : List ℕ). x ∷ l) e (add-self w (λ k. bw (suc k)))

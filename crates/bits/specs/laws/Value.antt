@@ -2,15 +2,15 @@
 use mathlib.Core.List.{List, [], _∷_, _++_}
 use mathlib.Core.Path.{_≡_, refl, sym, ap, ap₂, _∙_, subst}
 use Prim.Native.Nat.{ℕ, zero, suc, _+_, _-_, _*_, _/_, _%_, _^_, _≤_, _<_}
-use native.Mathlib.Nat.{pow-succ', pow-suc, not-suc-le-zero, le-of-suc-le-suc, mul-left-comm, mul-comm, mul-assoc, mul-add-div-right, mul-add-mod-self-right, mod-eq-of-lt}
+use native.Mathlib.Nat.{pow-succ', pow-suc, not-suc-le-zero, le-of-suc-le-suc, mul-left-comm, mul-assoc, mul-add-div-right, mul-add-mod-self-right, mod-eq-of-lt, zero-div}
 use native.Mathlib.Omega.{arith}
 use lib.Arith.{digits-lt, digits-div, mod-mul}
 use lib.Dec.{lit<}
 use lib.Pow.{pow-pos, pow-add}
 use lib.Bits.{bitXor, xor-block}
 use lib.ListN.{length, getD, length-append, List·getD-eq-default}
-use Rattle.bits.specs.Bits.{Bits, sum, add, value, digits, tab, tabFrom}
-use Rattle.bits.specs.laws.Sum.{length-add, bits-add}
+use Rattle.bits.specs.Bits.{Bits, sum, add, value, digits, tab, tabFrom, zeros}
+use Rattle.bits.specs.laws.Sum.{length-add}
 use Rattle.bits.specs.laws.Tab.{is-tab, at-tab, length-tab}
 
 tail : (a : ℕ) (w : List ℕ) → Bits (a ∷ w) → Bits w
@@ -113,3 +113,9 @@ mod-value (suc n) x =
 
 pub value-digits : (n x : ℕ) → x < 2 ^ n → value (digits n x) ≡ x
 value-digits n x h = mod-value n x ∙ mod-eq-of-lt h
+
+-- the digits of nothing
+pub digits-none : (n : ℕ) → digits n 0 ≡ zeros n
+unfolding zeros digits tab tabFrom
+digits-none zero = refl
+digits-none (suc n) = digits-more n 0 ∙ ap₂ (λ (b : ℕ) (w : List ℕ). b ∷ w) (ap (λ (q : ℕ). q % 2) (zero-div (2 ^ n))) (digits-none n)

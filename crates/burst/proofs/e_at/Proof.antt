@@ -1,10 +1,8 @@
 -- `burst::e_at` is right: the formula, and the flags passed over.
-use mathlib.Core.Path.{_≡_, sym, ap, subst}
+use mathlib.Core.Path.{_≡_, sym, subst}
 use Prim.Native.Nat.{ℕ, _<_}
-use lib.Dec.{ltb}
 use borrow.Author.Needs.{needs}
 use borrow.Author.Tests.{lt-ltb, le-ltb}
-use Rattle.bits.specs.Bits.{pick}
 use Rattle.burst.specs.Places.{placeOf, eOf, eAt}
 use Rattle.burst.specs.laws.Places.{every-bit}
 use Rattle.burst.proofs.e_at.Statement.{statement}

@@ -2,8 +2,8 @@
 use mathlib.Core.Bool.{Bool, true, false, not}
 use mathlib.Core.List.{List, _++_}
 use mathlib.Core.Logic.{⊎-elim}
-use mathlib.Core.Path.{_≡_, refl, sym, ap, _∙_}
-use Prim.Native.Nat.{ℕ, zero, suc, _+_, _-_, _*_, _/_, _%_, _≤_, _<_}
+use mathlib.Core.Path.{_≡_, refl, ap, _∙_}
+use Prim.Native.Nat.{ℕ, zero, suc, _+_, _*_, _/_, _%_, _≤_, _<_}
 use native.Mathlib.Omega.{arith}
 use lib.Dec.{T, ltb, eqb}
 use lib.ListN.{length, getD, length-append}
@@ -13,7 +13,7 @@ use Rattle.bits.specs.laws.Cases.{lt-or-le}
 use Rattle.bits.specs.laws.Parts.{put, put-four}
 use Rattle.bits.specs.laws.Tab.{at-tab, length-tab, at-left, at-right}
 use Rattle.burst.specs.Places.{placeOf, eAt, placeAt, bitAt, cell, burst, four, hl, hu}
-use Rattle.burst.specs.laws.Places.{Goes, every-bit, isFlag}
+use Rattle.burst.specs.laws.Places.{every-bit}
 
 unflagged : (b c : Bool) (q p : ℕ) (r : ℕ) → T (not (pick b true c)) → pick b q (pick c p r) ≡ r
 unflagged true c q p r t = absurd t

@@ -1,8 +1,8 @@
 -- The map from bit k to its burst and e-index is one to one, misses exactly the flags, and takes the even places for k mod 8 < 4 and
 -- the odd ones otherwise. Two computed tests carry it: one over the 456 bits, one over the 464 bytes of four bursts.
 use mathlib.Core.Bool.{Bool, true, false, not}
-use mathlib.Core.Path.{_≡_, refl, sym, ap, ap₂, _∙_, subst₂}
-use Prim.Native.Nat.{ℕ, _+_, _-_, _*_, _/_, _%_, _≤_, _<_}
+use mathlib.Core.Path.{_≡_, sym, ap, ap₂, _∙_, subst₂}
+use Prim.Native.Nat.{ℕ, _+_, _*_, _/_, _%_, _<_}
 use native.Mathlib.Omega.{arith}
 use lib.Dec.{T, ltb, eqb, ltb→lt, eqb→eq}
 use Rattle.bits.specs.Bits.{pick, both}

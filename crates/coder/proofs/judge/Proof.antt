@@ -1,5 +1,4 @@
 -- `coder::judge` is right: each answer is the case of `judged` to which the tests on the way lead.
-use mathlib.Core.Path.{sym, _∙_}
 use borrow.Author.Needs.{needs}
 use borrow.Author.Tests.{eq-eqb, ne-eqb, le-leb, lt-leb, not-true, not-false}
 use Rattle.coder.specs.Answers.{judged}

@@ -1,8 +1,5 @@
 -- `coder::receive_sch` is right: where every test holds, the nearest block is read and judged; else the buffer stands as before.
-use mathlib.Core.Path.{refl, subst}
-use mathlib.Core.List.{List}
-use Prim.Native.Nat.{ℕ}
-use native.Mathlib.Omega.{arith}
+use mathlib.Core.Path.{refl}
 use borrow.Author.Needs.{needs}
 use lib.Dec.{lit<, lit≤}
 use Rattle.parity.specs.Division.{schG}

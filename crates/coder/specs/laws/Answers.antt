@@ -7,7 +7,7 @@ use lib.Dec.{eqb, leb}
 use lib.ListN.{length, getD}
 use native.Mathlib.Omega.{arith}
 use borrow.Author.Tests.{eqb-true, leb-true}
-use Rattle.bits.specs.Bits.{Bits, both, allBits}
+use Rattle.bits.specs.Bits.{Bits, allBits}
 use Rattle.bits.specs.laws.Cases.{both-first, both-second}
 use Rattle.bits.specs.laws.Check.{all-bits}
 use Rattle.bits.specs.laws.Tab.{at-tab}

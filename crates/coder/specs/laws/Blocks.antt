@@ -1,13 +1,12 @@
 -- What `coder::block::code` writes is the block of each channel.
 use mathlib.Core.List.{List, _++_}
-use mathlib.Core.Path.{_≡_, sym, ap, _∙_}
+use mathlib.Core.Path.{_≡_, ap, _∙_}
 use Prim.Native.Nat.{ℕ, _<_, _≤_, _^_}
 use native.Mathlib.Omega.{arith}
 use lib.Bits.{bitXor}
-use lib.ListN.{length}
 use Rattle.bits.specs.Bits.{Bits, add, digits, value, zeros}
 use Rattle.bits.specs.laws.Value.{length-digits}
-use Rattle.parity.specs.Division.{parity, controlG, accessG, schG}
+use Rattle.parity.specs.Division.{parity}
 use Rattle.parity.specs.laws.Generators.{control-number, access-number, sch-number}
 use Rattle.trellis.specs.Pairs.{coded}
 use Rattle.coder.specs.Blocks.{controlU, controlBlock, colour, accessU, accessBurst, schU, schBurst}

@@ -4,13 +4,11 @@ use mathlib.Core.Logic.{⊎-elim}
 use mathlib.Core.Path.{_≡_, refl, _∙_}
 use Prim.Native.Nat.{ℕ, _+_, _-_, _*_, _%_, _≤_, _<_}
 use native.Mathlib.Omega.{arith}
-use lib.Dec.{ltb}
 use lib.ListN.{getD}
 use borrow.Author.Tests.{lt-ltb, le-ltb}
-use Rattle.bits.specs.Bits.{tab}
 use Rattle.bits.specs.laws.Cases.{lt-or-le}
 use Rattle.bits.specs.laws.Tab.{at-tab}
-use Rattle.burst.specs.Places.{eAt, four}
+use Rattle.burst.specs.Places.{eAt}
 use Rattle.burst.specs.laws.Four.{cell-bit, cell-hl, cell-hu, four-at}
 use Rattle.burst.specs.laws.Places.{every-bit}
 use Rattle.coder.specs.Blocks.{speechP, speechUAt, speechU, controlBlock, sacchMessage}

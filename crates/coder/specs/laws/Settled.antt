@@ -6,7 +6,6 @@ use Rattle.coder.specs.Answers.{Answer, Meets}
 use Rattle.coder.specs.Entries.{speechSent, controlSent, sacchSent, accessSent, schSent, trellisViewed}
 use Rattle.coder.specs.Received.{speechReceived, controlReceived, sacchReceived, accessReceived, schReceived}
 use Rattle.coder.specs.laws.Answers.{meets-once}
-use Rattle.coder.specs.declared.Told.{Told}
 
 -- at most one result, and one content of the buffer, meets the answer a
 abbrev pub Settled : {A : Type 0} → Answer A → Type 0

@@ -2,13 +2,13 @@
 use mathlib.Core.Bool.{Bool, true, false}
 use mathlib.Core.List.{List, _++_, append-nil}
 use mathlib.Core.Path.{_≡_, refl, sym, ap, ap₂, _∙_}
-use Prim.Native.Nat.{ℕ, _+_, _-_, _*_, _≤_, _<_}
+use Prim.Native.Nat.{ℕ, _+_, _-_, _*_, _≤_}
 use native.Mathlib.Omega.{arith}
 use lib.Dec.{ltb, lit<, lit≤}
 use lib.ListN.{length, getD, take, drop, length-append, length-drop}
 use lib.Seq.{length-take-le, take-all}
 use Rattle.bits.specs.Bits.{Bits, pick, tab, digits, value, ones, zeros}
-use Rattle.bits.specs.laws.Parts.{put, put-two, length-lent}
+use Rattle.bits.specs.laws.Parts.{put, put-two}
 use Rattle.bits.specs.laws.Sum.{length-ones, bits-ones, bits-append, bits-take}
 use Rattle.bits.specs.laws.Tab.{length-tab, bits-tab}
 use Rattle.bits.specs.laws.Value.{length-digits, digits-value}

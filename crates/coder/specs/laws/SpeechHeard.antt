@@ -2,14 +2,14 @@
 use mathlib.Core.Bool.{Bool, true, false}
 use mathlib.Core.List.{List, _++_}
 use mathlib.Core.Path.{_≡_, refl, sym, ap, ap₂, _∙_, subst}
-use Prim.Native.Nat.{ℕ, _+_, _-_, _*_, _/_, _%_, _≤_, _<_, _^_}
+use Prim.Native.Nat.{ℕ, _+_, _-_, _/_, _%_, _≤_}
 use native.Mathlib.Omega.{arith}
 use lib.Bits.{bitXor, xor-zero-r}
 use lib.Dec.{eqb, lit<, lit≤}
 use lib.ListN.{length, getD, take, drop, length-append, length-drop}
 use lib.Seq.{length-take-le, take-all}
 use Rattle.bits.specs.Bits.{Bits, pick, tab, digits, value, ones}
-use Rattle.bits.specs.laws.Parts.{put, put-two, length-lent}
+use Rattle.bits.specs.laws.Parts.{put, put-two}
 use Rattle.bits.specs.laws.Sum.{bits-append, bits-take}
 use Rattle.bits.specs.laws.Tab.{length-tab, bits-tab}
 use Rattle.bits.specs.laws.Value.{length-digits}
@@ -18,9 +18,8 @@ use Rattle.parity.specs.Division.{remainder, speechG}
 use Rattle.parity.specs.laws.Generators.{speech-number}
 use Rattle.trellis.specs.Nearest.{Candidate, nearest, nearestCount}
 use Rattle.trellis.specs.laws.Nearest.{nearest-is}
-use Rattle.coder.specs.Received.{Hearing, allOnes, speechDAt, speechHeard, verdict, hands}
+use Rattle.coder.specs.Received.{allOnes, speechDAt, speechHeard, verdict, hands}
 use Rattle.coder.specs.laws.Heard.{HandedOver, bits-drop, value-ones}
-use Rattle.coder.specs.declared.Heard.{Heard}
 use Rattle.coder.specs.declared.Heard.the-variants.{Good, Bad}
 
 -- ---- 50 bits and 3

@@ -1,5 +1,4 @@
 -- `parity::bring` is right: its two answers are the two cases of `bringN`.
-use mathlib.Core.Path.{sym}
 use borrow.Author.Needs.{needs}
 use borrow.Author.Tests.{lt-ltb, le-ltb}
 use Rattle.parity.specs.laws.Brought.{bringN}

@@ -1,6 +1,6 @@
 -- `parity::power` is right: 2 ^ degree fits 64 bits, so that the shift loses nothing.
-use mathlib.Core.Path.{_≡_, _∙_, ap}
-use Prim.Native.Nat.{ℕ, _*_, _^_, _<_, _%_}
+use mathlib.Core.Path.{_∙_, ap}
+use Prim.Native.Nat.{ℕ, _^_, _<_, _%_}
 use native.Mathlib.Nat.{mod-eq-of-lt, one-mul, lt-of-le-of-lt}
 use borrow.Author.Needs.{needs}
 use lib.Dec.{lit<}

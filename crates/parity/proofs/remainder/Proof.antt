@@ -1,17 +1,13 @@
 -- `parity::remainder` is right: after i turns it holds what the first i bits, brought down one by one, leave.
 use mathlib.Core.Path.{_≡_, refl, sym, ap, _∙_, subst}
-use Prim.Native.Nat.{ℕ, _+_, _-_, _^_, _≤_, _<_}
-use native.Mathlib.Nat.{le-trans}
+use Prim.Native.Nat.{ℕ, _-_, _^_, _≤_, _<_}
 use native.Mathlib.Omega.{arith}
 use borrow.Author.Needs.{needs}
-use lib.Dec.{lit≤}
 use lib.ListN.{length, getD, take}
 use lib.Pow.{pow-mono, pow-pos}
 use lib.Seq.{take-all}
-use Rattle.bits.specs.Bits.{Bits, digits, value}
+use Rattle.bits.specs.Bits.{digits}
 use Rattle.bits.specs.laws.Value.{length-digits, bits-digits, value-digits}
-use Rattle.parity.specs.Asked.{Divisible}
-use Rattle.parity.specs.Division.{remainder}
 use Rattle.parity.specs.laws.Brought.{alongN, alongN-more, bringN, bringN-lt, remainder-value}
 use Rattle.parity.proofs.remainder.Statement.{statement}
 use Rattle.parity.proofs.remainder.Tie as tie

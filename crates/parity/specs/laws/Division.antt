@@ -1,11 +1,11 @@
 -- Division is linear, once over the generator and the length; so exactly one list of parity bits leaves all ones.
 use mathlib.Core.List.{List, [], _∷_, _++_}
 use mathlib.Core.Path.{_≡_, refl, sym, ap, ap₂, _∙_}
-use Prim.Native.Nat.{ℕ, zero, suc, _+_, _-_, _%_, _≤_}
+use Prim.Native.Nat.{ℕ, zero, suc, _-_, _≤_}
 use native.Mathlib.Omega.{arith}
 use lib.ListN.{length, length-append}
 use Rattle.bits.specs.Bits.{Bits, sum, add, zeros, ones}
-use Rattle.bits.specs.laws.Sum.{add-swap, add-assoc, add-cancel, add-zeros, add-twice, add-append, length-add, length-zeros, length-ones, bits-add, bits-zeros, bits-ones, bits-append}
+use Rattle.bits.specs.laws.Sum.{add-swap, add-assoc, add-cancel, add-zeros, add-twice, length-add, length-zeros, length-ones, bits-add, bits-zeros, bits-ones, bits-append}
 use Rattle.parity.specs.Division.{divide, remainder, parity}
 
 tail : (a : ℕ) (w : List ℕ) → Bits (a ∷ w) → Bits w

@@ -3,13 +3,13 @@
 -- leaving state 0 costs with the potential there.
 use mathlib.Core.List.{List, [], _∷_}
 use mathlib.Core.Logic.{_⊎_, ⊎-elim, inl, inr}
-use mathlib.Core.Path.{_≡_, refl, sym, ap, _∙_, subst}
+use mathlib.Core.Path.{_≡_, refl}
 use Prim.Native.Nat.{ℕ, zero, suc, _+_, _*_, _≤_, _<_}
 use native.Mathlib.Omega.{arith}
 use lib.ListN.{length, getD}
 use Rattle.bits.specs.Bits.{Bits}
 use Rattle.register.specs.Register.{next, state, pathCost}
-use Rattle.register.specs.laws.Steps.{state-lt, next-lt}
+use Rattle.register.specs.laws.Steps.{state-lt}
 
 abbrev pub AllZero : List ℕ → Type 0
 AllZero h = (k : ℕ) → getD h k 0 ≡ 0

@@ -1,9 +1,9 @@
 -- The candidates of n bits are the paths of n bits that end in state 0.
-use mathlib.Core.List.{List, [], _∷_, _++_, reverse, reverse-cons, reverse-append, reverseAux, reverseAux-eq}
-use mathlib.Core.Path.{_≡_, refl, sym, ap, ap₂, _∙_, subst}
-use Prim.Native.Nat.{ℕ, zero, suc, _+_, _-_, _*_, _/_, _≤_, _<_}
+use mathlib.Core.List.{List, [], _∷_, _++_, reverse, reverse-append, reverseAux-eq}
+use mathlib.Core.Path.{_≡_, sym, ap, _∙_}
+use Prim.Native.Nat.{ℕ, suc, _-_, _≤_}
 use native.Mathlib.Omega.{arith}
-use lib.ListN.{length, getD, take, drop, replicate, length-append, length-drop, length-reverse, take-append-drop}
+use lib.ListN.{length, take, drop, length-drop, length-reverse, take-append-drop}
 use lib.Seq.{drop-at}
 use Rattle.bits.specs.Bits.{Bits, zeros}
 use Rattle.bits.specs.laws.Sum.{length-zeros}

@@ -7,11 +7,10 @@ use mathlib.Core.Path.{_≡_, refl, sym, ap, ap₂, _∙_, subst, subst₂}
 use Prim.Native.Nat.{ℕ, zero, suc, _+_, _-_, _*_, _/_, _%_, _≤_, _<_}
 use native.Mathlib.Omega.{arith}
 use lib.Dec.{T, leb, leb→le, eqb}
-use lib.ListN.{length, getD, drop, replicate, length-reverse, replicate-append-replicate}
-use lib.Seq.{ext-getD}
-use borrow.Author.Tests.{eq-eqb, ne-eqb, eqb-true, eqb-false}
-use Rattle.bits.specs.Bits.{Bits, pick, sum, add, zeros}
-use Rattle.bits.specs.laws.Sum.{length-add, bits-add, length-zeros, drop-add, sum-nothing}
+use lib.ListN.{length, getD, length-reverse}
+use borrow.Author.Tests.{eq-eqb, eqb-true}
+use Rattle.bits.specs.Bits.{pick, sum, add, zeros}
+use Rattle.bits.specs.laws.Sum.{length-add, bits-add, drop-add, sum-nothing}
 use Rattle.bits.specs.laws.Tab.{below, at-tab}
 use Rattle.register.specs.Register.{NotAfter, next, state, pathCost}
 use Rattle.register.specs.laws.Distance.{AllZero, held}

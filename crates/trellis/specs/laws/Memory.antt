@@ -1,20 +1,15 @@
 -- The row and the choices of the code are those of the register, and the walk back through the packed choices is the register's walk.
 use mathlib.Core.Bool.{Bool, true, false}
-use mathlib.Core.List.{List, [], _∷_, _++_, reverse, reverse-cons, append-assoc, append-nil}
-use mathlib.Core.Logic.{⊎-elim}
-use mathlib.Core.Path.{_≡_, refl, sym, ap, ap₂, _∙_, subst}
+use mathlib.Core.List.{List, [], _∷_, _++_, reverse, reverse-cons}
+use mathlib.Core.Path.{_≡_, refl, sym, ap, ap₂, _∙_}
 use Prim.Native.Nat.{ℕ, zero, suc, _+_, _-_, _*_, _/_, _%_, _^_, _≤_, _<_, min}
-use native.Mathlib.Nat.{not-suc-le-zero}
 use native.Mathlib.Numerals.{add-one}
 use native.Mathlib.Omega.{arith}
-use lib.Arith.{digits-lt}
 use lib.Dec.{ltb}
 use lib.ListN.{length, getD, take, drop, set, length-set, length-reverse}
-use lib.Pow.{pow-pos, pow-add}
 use lib.Seq.{append-snoc, take-at, drop-cons, drop-set-lt, getD-set-same, getD-set-other}
 use borrow.Author.Count.{below-more}
 use Rattle.bits.specs.Bits.{pick, tab, tabFrom, value}
-use Rattle.bits.specs.laws.Cases.{lt-or-le}
 use Rattle.bits.specs.laws.Tab.{at-tab, tab-same, length-tab, bits-tab}
 use Rattle.bits.specs.laws.Value.{at-digit}
 use Rattle.register.specs.Register.{bit, from, way, best, choice, walk}

@@ -2,7 +2,7 @@
 use mathlib.Core.List.{List, [], _∷_, reverse, reverse-reverse}
 use mathlib.Core.Logic.{_⊎_, ⊎-elim, inl, inr}
 use mathlib.Core.Path.{_≡_, refl, sym, ap, ap₂, _∙_, subst}
-use Prim.Native.Nat.{ℕ, zero, suc, _+_, _-_, _*_, _/_, _%_, _≤_, _<_}
+use Prim.Native.Nat.{ℕ, zero, suc, _+_, _*_, _/_, _%_, _≤_, _<_}
 use native.Mathlib.Omega.{arith}
 use mathlib.Core.Bool.{Bool, true, false}
 use lib.Dec.{eqb}
@@ -13,8 +13,8 @@ use Rattle.register.specs.Register.{NotAfter, next, state, pathCost, Least, bes
 use Rattle.register.specs.laws.Nearest.{good}
 use Rattle.register.specs.laws.Steps.{same-path}
 use Rattle.trellis.specs.Pairs.{coded, stateAt, pairOf}
-use Rattle.trellis.specs.Nearest.{differ, disagreements, pairCost, Candidate, Nearest, Ends, Reached, Fewest, rowAt, nearest, nearestCount, longest}
-use Rattle.trellis.specs.laws.Candidates.{candidate-state, candidate-long, path-candidate}
+use Rattle.trellis.specs.Nearest.{differ, disagreements, pairCost, Nearest, Ends, Reached, Fewest, rowAt, nearest, nearestCount, longest}
+use Rattle.trellis.specs.laws.Candidates.{candidate-state, path-candidate}
 use Rattle.trellis.specs.laws.Paths.{bits-reverse, path-state, path-cost}
 
 -- ---- a path costs at most two a pair

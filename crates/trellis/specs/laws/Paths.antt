@@ -1,19 +1,19 @@
 -- A path of the register, newest bit first, and the block that it is, first bit first: the state and the disagreements are the same.
 use mathlib.Core.List.{List, [], _∷_, _++_, reverse, reverse-cons}
 use mathlib.Core.Logic.{⊎-elim}
-use mathlib.Core.Path.{_≡_, refl, sym, ap, ap₂, _∙_, subst}
-use Prim.Native.Nat.{ℕ, zero, suc, _+_, _-_, _*_, _/_, _%_, _≤_, _<_}
+use mathlib.Core.Path.{_≡_, refl, sym, ap, ap₂, _∙_}
+use Prim.Native.Nat.{ℕ, zero, suc, _+_, _-_, _*_, _/_, _≤_, _<_}
 use native.Mathlib.Numerals.{add-one}
 use native.Mathlib.Omega.{arith}
 use lib.ListN.{length, getD, length-append, length-reverse, List·getD-append}
-use Rattle.bits.specs.Bits.{Bits, tab}
+use Rattle.bits.specs.Bits.{Bits}
 use Rattle.bits.specs.laws.Cases.{lt-or-le}
 use Rattle.bits.specs.laws.Sum.{bits-append, bits-cons}
 use Rattle.bits.specs.laws.Tab.{at-tab, at-right}
 use Rattle.register.specs.Register.{next, state, pathCost}
 use Rattle.trellis.specs.Pairs.{back, first, second, codedAt, coded, stateAt, pairOf}
 use Rattle.trellis.specs.Nearest.{differ, total, disagreements, pairCost}
-use Rattle.trellis.specs.laws.Pairs.{back-early, back-late, back-now, coded-even, coded-odd, length-coded, state-start, state-next, pair-first, pair-second}
+use Rattle.trellis.specs.laws.Pairs.{back-early, back-late, length-coded, state-start, state-next, pair-first, pair-second}
 
 -- ---- sums
 pub total-same : (n : ℕ) (f g : ℕ → ℕ) → ((i : ℕ) → i < n → f i ≡ g i) → total n f ≡ total n g

@@ -1,5 +1,4 @@
 -- `coder::block::read_over` is right: the nearest block is laid out, judged by its parity bits, and handed over where they are good.
-use mathlib.Core.Path.{refl}
 use Rattle.coder.specs.laws.Heard.{heard-divisible, handed-good, handed-bad}
 use borrow.Author.Needs.{needs}
 use Rattle.coder.proofs.block.read_over.Statement.{statement}

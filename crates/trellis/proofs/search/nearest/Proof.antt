@@ -1,6 +1,6 @@
 -- `trellis::search::nearest` is right: it walks back from state 0 through the choices that the search remembered.
 use native.Mathlib.Omega.{arith}
-use lib.ListN.{length, drop}
+use lib.ListN.{length}
 use Rattle.trellis.specs.laws.Memory.{found, count-is}
 use borrow.Author.Needs.{needs}
 use Rattle.trellis.proofs.search.nearest.Statement.{statement}

@@ -1,7 +1,6 @@
 -- `trellis::search::search` is right: after k pairs it holds the row there, and remembers the choices of the k pairs before.
 use mathlib.Core.Path.{_≡_, ap, _∙_, subst}
-use mathlib.Core.List.{List}
-use Prim.Native.Nat.{ℕ, _+_, _-_, _*_, _≤_, _<_}
+use Prim.Native.Nat.{ℕ, _+_, _-_, _*_, _≤_}
 use native.Mathlib.Omega.{arith}
 use lib.ListN.{length, length-set}
 use Rattle.trellis.specs.Nearest as spec

@@ -1,0 +1,73 @@
+-- What is promised of sending and receiving together, over the definitions that the entries' contracts cite. Proved in laws/Promises.
+use mathlib.Core.List.{List, _++_}
+use mathlib.Core.Path.{_≡_}
+use Prim.Native.Nat.{ℕ, _≤_}
+use lib.ListN.{length, take, drop}
+use Rattle.bits.specs.Bits.{Bits}
+use Rattle.trellis.specs.Nearest.{disagreements}
+use Rattle.burst.specs.Places.{gathered}
+use Rattle.coder.specs.Answers.{Answer}
+use Rattle.coder.specs.Entries.{speechSent, controlSent, sacchSent, accessSent, schSent}
+use Rattle.coder.specs.Received.{speechReceived, controlReceived, sacchReceived, accessReceived, schReceived}
+use Rattle.coder.specs.declared.Heard.{Heard}
+use Rattle.coder.specs.declared.Heard.the-variants.{Good, Bad}
+use Rattle.coder.specs.declared.Told.{Told}
+use Rattle.coder.specs.declared.Told.the-variants.{Done}
+
+-- n bits to read, and a lent buffer of m bytes
+pub record Given (n m : ℕ) (d out : List ℕ) : Type 0 where
+  pub reads : length d ≡ n
+  pub bits : Bits d
+  pub lends : length out ≡ m
+
+-- how many of the protected bits of what was sent are altered in what arrived
+abbrev pub altered : (List ℕ → List ℕ) → List ℕ → List ℕ → ℕ
+altered protected sent arrived = disagreements (protected arrived) (protected sent)
+
+-- good, with this count and these bits handed over; refused with 8, with this count, the buffer as before
+abbrev pub accepted : ℕ → List ℕ → Answer Heard
+accepted count bits = record { told = Good count; left = bits }
+
+abbrev pub found-bad : ℕ → List ℕ → Answer Heard
+found-bad count before = record { told = Bad count; left = before }
+
+-- Any n bits d are sent, and are m. Any m bits e arrive. If at most three of the protected bits are altered, what is received is good,
+-- the count is the number altered, and the bits are those that `handed` says of d and e.
+abbrev pub ComesBack : ℕ → ℕ → (List ℕ → List ℕ → Answer Told) → (List ℕ → List ℕ → Answer Heard) → (List ℕ → List ℕ) → (List ℕ → List ℕ → List ℕ) → Type 0
+ComesBack n m send receive protected handed =
+    (d c e out : List ℕ) → Given n m d c → Given m n e out → altered protected (send d c .left) e ≤ 3
+    → (send d c .told ≡ Done) × (receive e out ≡ accepted (altered protected (send d c .left) e) (handed d e))
+
+-- every bit is protected; the bits are those that were sent
+abbrev pub whole : List ℕ → List ℕ
+whole c = c
+
+abbrev pub asSent : List ℕ → List ℕ → List ℕ
+asSent d e = d
+
+-- 01: of a speech block the first 378 bits are protected, and carry d(0) to d(181); the last 78 are as received
+abbrev pub SpeechPromise : Type 0
+SpeechPromise = ComesBack 260 456 speechSent speechReceived (take 378) (λ d e. take 182 d ++ drop 378 e)
+
+abbrev pub ControlPromise : Type 0
+ControlPromise = ComesBack 184 456 controlSent controlReceived whole asSent
+
+-- of a SACCH message the bits at their places are protected; the eight flags may be altered anyhow
+abbrev pub SacchPromise : Type 0
+SacchPromise = ComesBack 184 464 sacchSent sacchReceived gathered asSent
+
+abbrev pub SchPromise : Type 0
+SchPromise = ComesBack 25 78 schSent schReceived whole asSent
+
+-- demand 3, its last sentence: an access request altered in at most three of its 36 bits is accepted under the identity i it was sent
+-- for, with its eight bits, and refused under each other identity j
+abbrev pub AcceptedUnder : ℕ → Type 0
+AcceptedUnder i = ComesBack 8 36 (accessSent i) (accessReceived i) whole asSent
+
+abbrev pub RefusedUnder : ℕ → ℕ → Type 0
+RefusedUnder i j =
+    (d c e out : List ℕ) → Given 8 36 d c → Given 36 8 e out → altered whole (accessSent i d c .left) e ≤ 3
+    → accessReceived j e out ≡ found-bad (altered whole (accessSent i d c .left) e) out
+
+abbrev pub AccessPromise : Type 0
+AccessPromise = (i : ℕ) → i ≤ 63 → AcceptedUnder i × ((j : ℕ) → j ≤ 63 → (j ≡ i → ⊥) → RefusedUnder i j)
