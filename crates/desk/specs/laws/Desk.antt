@@ -1,12 +1,18 @@
 -- Each contract settles the number and every byte of the lent buffer; and the number gives 01's number and the count back.
+use mathlib.Core.Bool.{Bool, true, false}
 use mathlib.Core.List.{List}
 use mathlib.Core.Option.{Option, none}
 use mathlib.Core.Path.{_≡_, refl, ap, _∙_}
 use Prim.Native.Nat.{ℕ, _+_, _*_, _/_, _%_, _≤_}
 use native.Mathlib.Omega.{arith}
-use Rattle.coder.specs.Answers.{Answer, Meets, numberOf, numberGiven}
-use Rattle.coder.specs.Entries.{accessSent, controlSent}
-use Rattle.coder.specs.Received.{accessReceived, controlReceived, numberHeard, countHeard}
+use lib.Dec.{leb}
+use lib.ListN.{length}
+use Rattle.bits.specs.Bits.{allBits}
+use Rattle.parity.specs.Division.{accessG, controlG}
+use Rattle.trellis.specs.laws.Nearest.{count-fits}
+use Rattle.coder.specs.Answers.{Answer, Meets, judged, numberOf, numberGiven}
+use Rattle.coder.specs.Entries.{lengths, accessSent, controlSent}
+use Rattle.coder.specs.Received.{accessReceived, controlReceived, Hearing, blockHeard, verdict, hearing, reception, numberHeard, countHeard}
 use Rattle.coder.specs.declared.Heard.{Heard}
 use Rattle.coder.specs.declared.Heard.the-variants.{Good, Bad}
 use Rattle.coder.specs.declared.Heard.the-variants as heard
@@ -68,3 +74,23 @@ sent-from a r n after e m = record { told = e ∙ ap (λ (t : Told). oneNumber (
 
 pub heard-at : (a : Answer Heard) (r : Heard) (n : ℕ) (after : List ℕ) → n ≡ oneNumber (numberHeard r) (countHeard r) → Meets a r after → Meets (heardAt a) n after
 heard-at a r n after e m = record { told = e ∙ ap (λ (h : Heard). oneNumber (numberHeard h) (countHeard h)) (m .told); left = m .left }
+
+-- ---- every count fits the lower half
+told-fits : (h : Hearing) → h .count ≤ 65535 → (b : Bool) → h .good ≡ b → orNone (countHeard (verdict h)) ≤ 65535
+unfolding verdict
+told-fits h l true e = rw e l
+told-fits h l false e = rw e l
+
+hearing-fits : (t : Told) (h : Hearing) → h .count ≤ 65535 → orNone (countHeard (hearing t h)) ≤ 65535
+unfolding hearing
+hearing-fits Done h l = told-fits h l (h .good) refl
+hearing-fits (told.Refused r) h l = omega arith
+
+module _ (identity : ℕ) (c d : List ℕ) where
+  pub access-count-fits : orNone (countHeard (accessReceived identity c d .told)) ≤ 65535
+  unfolding accessReceived reception blockHeard
+  access-count-fits = hearing-fits (judged (lengths c 36 d 8) (allBits c) (leb identity 63)) (blockHeard accessG identity 8 c) (count-fits c (8 + length accessG + 4))
+
+  pub control-count-fits : orNone (countHeard (controlReceived c d .told)) ≤ 65535
+  unfolding controlReceived reception blockHeard
+  control-count-fits = hearing-fits (judged (lengths c 456 d 184) (allBits c) (leb 0 63)) (blockHeard controlG 0 184 c) (count-fits c (184 + length controlG + 4))

@@ -9,7 +9,7 @@ use lib.Dec.{eqb}
 use lib.ListN.{length, getD, length-reverse}
 use Rattle.bits.specs.Bits.{Bits, pick, zeros}
 use Rattle.bits.specs.laws.Sum.{length-zeros, bits-zeros}
-use Rattle.register.specs.Register.{NotAfter, next, state, pathCost, Least, best, walk}
+use Rattle.register.specs.Register.{NotAfter, next, state, pathCost, Least, way, best, walk}
 use Rattle.register.specs.laws.Nearest.{good}
 use Rattle.register.specs.laws.Steps.{same-path}
 use Rattle.trellis.specs.Pairs.{coded, stateAt, pairOf}
@@ -113,3 +113,9 @@ module _ (r : List ℕ) where
       let same : reverse u ≡ reverse v =
       same-path (reverse u) (reverse v) l (a .first v (b .candidate) (b .counts ∙ sym e)) (b .first u (a .candidate) (a .counts ∙ e)) in
       (sym (reverse-reverse u) ∙ ap reverse same ∙ reverse-reverse v, e)
+
+-- a count fits 16 bits
+pub count-fits : (r : List ℕ) (n : ℕ) → nearestCount r n ≤ 65535
+unfolding nearestCount rowAt best way
+count-fits r zero = omega arith
+count-fits r (suc n) = omega arith

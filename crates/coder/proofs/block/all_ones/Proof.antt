@@ -1,7 +1,8 @@
 -- `coder::block::all_ones` is right: 2 ^ degree fits 64 bits, so that the shift loses nothing.
-use mathlib.Core.Path.{_≡_, _∙_, ap, sym, subst}
+use mathlib.Core.Path.{_≡_, _∙_, ap}
 use Prim.Native.Nat.{ℕ, _-_, _*_, _^_, _<_, _≤_, _%_}
 use native.Mathlib.Nat.{mod-eq-of-lt, one-mul, lt-of-le-of-lt}
+use native.Mathlib.Omega.{arith}
 use lib.Dec.{lit<}
 use lib.Pow.{pow-mono, pow-pos}
 use borrow.Author.Needs.{needs}
@@ -14,7 +15,7 @@ shifted k h =
     ap (λ (x : ℕ). x % 2 ^ 64) (one-mul (2 ^ k)) ∙ mod-eq-of-lt l
 
 sub-result : tie.Need-sub-result
-sub-result c = subst (λ (x : ℕ). 1 ≤ x) (sym (shifted (c .args .degree) (c .pre))) (pow-pos (c .args .degree))
+sub-result c = omega (arith, shifted (c .args .degree) (c .pre), pow-pos (c .args .degree))
 
 returns : tie.Need-returns
 returns c = ap (λ (x : ℕ). x - 1) (shifted (c .args .degree) (c .pre))
