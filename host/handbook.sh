@@ -1,7 +1,5 @@
 # 01's handbook examples that are run and not proved, as kit lines: LINE => ANSWER, the answers typed from the paper. Sourced, by POSIX sh.
 
-zeros() { printf "%0$1d" 0; } # COUNT
-
 handbook() {
     say "speech? $(zeros 456) => refused 8 0"
     say "control? $(zeros 456) => refused 8 0"

@@ -1,0 +1,90 @@
+/*
+ * The desk: access and control blocks of GSM 05.03, sent and received by the proved library desk.
+ *
+ * A bit is one byte, 0 or 1. Each call reads one buffer of bits and writes another; each buffer is passed as its address
+ * and its length in bytes. No address may be null, not even for length 0, and the two buffers must not overlap. Nothing
+ * else is asked of the caller: every length, every byte and every identity has its answer. A call keeps nothing for the
+ * next one, takes no memory of its own but the stack, and never changes the buffer that it reads.
+ *
+ * Each call answers one number, 65536 times the refusal and then the count; desk_number and desk_count take it apart.
+ * Where the number is 0, the call has written every byte of its output buffer. Where it is a refusal, every byte of the
+ * output buffer is what it was before. What stands in the output buffer before the call is never looked at.
+ */
+#ifndef DESK_H
+#define DESK_H
+
+#include <stddef.h>
+#include <stdint.h>
+
+#ifdef __cplusplus
+extern "C" {
+#endif
+
+/* The length of each buffer. */
+enum {
+    DESK_ACCESS_BITS = 8,          /* what an access burst carries */
+    DESK_ACCESS_CODED_BITS = 36,   /* an access burst as it is sent */
+    DESK_CONTROL_BITS = 184,       /* what a control block carries */
+    DESK_CONTROL_CODED_BITS = 456, /* a control block as it is sent */
+    DESK_HIGHEST_IDENTITY = 63     /* of a base station */
+};
+
+/* The number in an answer. Where several of the first three apply, the lowest is given. */
+enum desk_refusal {
+    DESK_NO_REFUSAL = 0,     /* done, and the block is good */
+    DESK_WRONG_LENGTH = 1,   /* one of the two buffers is longer or shorter than it has to be */
+    DESK_NOT_A_BIT = 2,      /* a byte that is read is over 1 */
+    DESK_WRONG_IDENTITY = 3, /* the identity is over 63 */
+    DESK_BAD_PARITY = 8      /* receiving only: the nearest block has wrong parity bits */
+};
+
+/* The number in an answer, one of enum desk_refusal. */
+static inline uint32_t desk_number(uint32_t answer)
+{
+    return answer / 65536;
+}
+
+/* In how many of the received bits the nearest block disagrees; 0 after a send and after refusals 1, 2 and 3. */
+static inline uint32_t desk_count(uint32_t answer)
+{
+    return answer % 65536;
+}
+
+/*
+ * Sends an access burst to the base station of this identity.
+ * Reads 8 bits from d and, if the number is 0, writes the 36 coded bits to e.
+ * The number is 0, 1, 2 or 3. The count is 0.
+ */
+uint32_t desk_send_access(uint8_t identity, const uint8_t *d, size_t d_len, uint8_t *e, size_t e_len);
+
+/*
+ * Receives an access burst as the base station of this identity.
+ * Reads 36 bits from e, some of them perhaps altered on the way, and finds the nearest block that could have been sent.
+ * If its parity is good under this identity, the number is 0 and its 8 bits are written to d; else the number is 8.
+ * The count is given in both cases. The number may also be 1, 2 or 3.
+ * Up to three altered bits are always repaired: then the count is how many were altered, and only the identity that the
+ * burst was sent to takes it.
+ */
+uint32_t desk_receive_access(uint8_t identity, const uint8_t *e, size_t e_len, uint8_t *d, size_t d_len);
+
+/*
+ * Sends a control block.
+ * Reads 184 bits from d and, if the number is 0, writes the 456 coded bits to c.
+ * The number is 0, 1 or 2. The count is 0.
+ */
+uint32_t desk_send_control(const uint8_t *d, size_t d_len, uint8_t *c, size_t c_len);
+
+/*
+ * Receives a control block.
+ * Reads 456 bits from c, some of them perhaps altered on the way, and finds the nearest block that could have been sent.
+ * If its parity is good, the number is 0 and its 184 bits are written to d; else the number is 8.
+ * The count is given in both cases. The number may also be 1 or 2.
+ * Up to three altered bits are always repaired: then the number is 0 and the count is how many were altered.
+ */
+uint32_t desk_receive_control(const uint8_t *c, size_t c_len, uint8_t *d, size_t d_len);
+
+#ifdef __cplusplus
+}
+#endif
+
+#endif
