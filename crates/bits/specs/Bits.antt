@@ -29,6 +29,11 @@ tabFrom i (suc n) f = f i ∷ tabFrom (suc i) n f
 unfoldable pub tab : ℕ → (ℕ → ℕ) → List ℕ
 tab n f = tabFrom 0 n f
 
+-- f 0 + .. + f (n-1)
+unfoldable pub total : ℕ → (ℕ → ℕ) → ℕ
+total zero f = 0
+total (suc n) f = total n f + f n
+
 unfoldable pub largest : List ℕ → ℕ
 largest [] = 0
 largest (b ∷ w) = max b (largest w)

@@ -4,3 +4,4 @@ pub mod Value
 pub mod Check
 pub mod Cases
 pub mod Parts
+pub mod Total

@@ -1,8 +1,22 @@
 // The bursts: where a block's coded bits and flags stand in them (000, 3.1.3, 3.1.4, 4.1.4, 4.1.5).
 ghost use mathlib.Core.Path.{_≡_};
-ghost use Prim.Native.Nat.{_≤_, _<_};
+ghost use Prim.Native.Nat.{_+_, _*_, _%_, _≤_, _<_};
+ghost use lib.Dec.{ltb};
 ghost use lib.ListN.{length};
-ghost use Rattle.burst.specs.Places.{placeAt, bitAt, cell, burst, four, eAt, gathered};
+ghost use Rattle.bits.specs.Bits.{pick, tab, total};
+ghost use Rattle.burst.specs.Places.{placeAt, bitAt, cell, burst, four, eAt, gathered, firstBurst, heldBit, hl, hu};
+
+// Blocks are counted by n and bursts by B (01, Bursts and streams), each in a type of its own.
+pub struct BlockNumber(pub u16);
+
+pub struct BurstNumber(pub u32);
+
+// The first burst of block n: the one way from a block's number to a burst's.
+pub fn first_burst(n: BlockNumber) -> BurstNumber
+    ensures { λ r. ⌜ r .0 ≡ firstBurst (n .0) ⌝ }
+{
+    BurstNumber(4 * n.0 as u32)
+}
 
 // The place of e(x).
 fn place_at(x: usize) -> usize
@@ -77,4 +91,54 @@ pub fn gather_four(e: &[u8], c: &mut [u8])
         c[k] = e[116 * (k % 4) + e_at(k)];
         k += 1;
     }
+}
+
+// Where burst B stands among the eight that are held.
+pub fn held_at(b: BurstNumber) -> usize
+    ensures { λ r. ⌜ (r ≡ 116 * (b .0 % 8)) × (r ≤ 812) ⌝ }
+{
+    116 * (b.0 % 8) as usize
+}
+
+// e(x) of the burst that is r after the one at `first` among the eight, as a bit.
+fn held_bit(first: usize, r: usize, x: usize, held: &[u8]) -> u8
+    requires { ⌜ (first < 8) × (r < 8) × (x < 116) × (length (now held) ≡ 928) ⌝ }
+    ensures { λ b. ⌜ (b ≡ heldBit (now (held .entry)) (first + r) x) × (b ≤ 1) ⌝ }
+{
+    held[116 * ((first + r) % 8) + x] % 2
+}
+
+// The coded bits of the block whose first burst is B, out of the eight bursts that are held.
+pub fn gather_eight(b: BurstNumber, held: &[u8], c: &mut [u8])
+    requires { ⌜ (length (now held) ≡ 928) × (length (now c) ≡ 456) ⌝ }
+    ensures { λ _. ⌜ now (c .exit) ≡ tab 456 (λ k. heldBit (now (held .entry)) (b .0 + k % 8) (eAt k)) ⌝ }
+{
+    let first = (b.0 % 8) as usize;
+    let mut k = 0;
+    while k < 456 {
+        c[k] = held_bit(first, k % 8, e_at(k), held);
+        k += 1;
+    }
+}
+
+// Where flag i of a block stands in its burst: hu in its first four bursts, hl in its last four.
+fn flag_index(i: usize) -> usize
+    ensures { λ r. ⌜ (r ≡ pick (ltb i 4) hu hl) × (r < 116) ⌝ }
+{
+    if i < 4 { 58 } else { 57 }
+}
+
+// How many of the eight flags of the block whose first burst is B are 1: they are gathered into one number.
+pub fn count_flags(b: BurstNumber, held: &[u8]) -> u32
+    requires { ⌜ length (now held) ≡ 928 ⌝ }
+    ensures { λ r. ⌜ r ≡ total 8 (λ i. heldBit (now (held .entry)) (b .0 + i) (pick (ltb i 4) hu hl)) ⌝ }
+{
+    let first = (b.0 % 8) as usize;
+    let mut flags = 0u8;
+    let mut i = 0;
+    while i < 8 {
+        flags = 2 * flags + held_bit(first, i, flag_index(i), held);
+        i += 1;
+    }
+    u8::count_ones(flags)
 }

@@ -2,34 +2,19 @@
 use mathlib.Core.List.{List, [], _∷_, _++_, reverse, reverse-cons}
 use mathlib.Core.Logic.{⊎-elim}
 use mathlib.Core.Path.{_≡_, refl, sym, ap, ap₂, _∙_}
-use Prim.Native.Nat.{ℕ, zero, suc, _+_, _-_, _*_, _/_, _≤_, _<_}
+use Prim.Native.Nat.{ℕ, suc, _+_, _-_, _*_, _/_, _≤_, _<_}
 use native.Mathlib.Numerals.{add-one}
 use native.Mathlib.Omega.{arith}
 use lib.ListN.{length, getD, length-append, length-reverse, List·getD-append}
-use Rattle.bits.specs.Bits.{Bits}
+use Rattle.bits.specs.Bits.{Bits, total}
 use Rattle.bits.specs.laws.Cases.{lt-or-le}
 use Rattle.bits.specs.laws.Sum.{bits-append, bits-cons}
+use Rattle.bits.specs.laws.Total.{total-same}
 use Rattle.bits.specs.laws.Tab.{at-tab, at-right}
 use Rattle.register.specs.Register.{next, state, pathCost}
 use Rattle.trellis.specs.Pairs.{back, first, second, codedAt, coded, stateAt, pairOf}
-use Rattle.trellis.specs.Nearest.{differ, total, disagreements, pairCost}
+use Rattle.trellis.specs.Nearest.{differ, disagreements, pairCost}
 use Rattle.trellis.specs.laws.Pairs.{back-early, back-late, length-coded, state-start, state-next, pair-first, pair-second}
-
--- ---- sums
-pub total-same : (n : ℕ) (f g : ℕ → ℕ) → ((i : ℕ) → i < n → f i ≡ g i) → total n f ≡ total n g
-unfolding total
-total-same zero f g h = refl
-total-same (suc n) f g h = ap₂ (λ (a b : ℕ). a + b) (total-same n f g (λ i l. h i (omega arith))) (h n (omega arith))
-
-pub total-le : (n : ℕ) (f g : ℕ → ℕ) → ((i : ℕ) → i < n → f i ≤ g i) → total n f ≤ total n g
-unfolding total
-total-le zero f g h = omega arith
-total-le (suc n) f g h = omega (arith, total-le n f g (λ i l. h i (omega arith)), h n (omega arith))
-
-pub total-add : (n : ℕ) (f g : ℕ → ℕ) → total n (λ i. f i + g i) ≡ total n f + total n g
-unfolding total
-total-add zero f g = refl
-total-add (suc n) f g = rw (total-add n f g) (omega arith)
 
 -- the disagreements with the pairs of u, by the index
 pub by-index : (r u : List ℕ) → disagreements r (coded u) ≡ total (2 * length u) (λ i. differ (codedAt u i) (getD r i 0))

@@ -1,0 +1,91 @@
+-- `stream::receiver::Receiver::take` is right: where every test holds, the burst is kept and brings its answer; else all stands as before.
+use mathlib.Core.List.{List}
+use mathlib.Core.Path.{_≡_, ap, ap₂, _∙_}
+use Prim.Native.Nat.{ℕ, _+_}
+use native.Mathlib.Omega.{arith}
+use lib.ListN.{length}
+use borrow.Author.Needs.{needs}
+use Rattle.burst.specs.Places.{kept}
+use Rattle.stream.specs.Receiving.{Brought, answered, takeTold, takenNext, takeAnswer}
+use Rattle.stream.specs.laws.Receiving.{take-able, done-taking, refused-taking}
+use Rattle.stream.specs.declared.receiver.Receiver.{Receiver}
+use Rattle.stream.proofs.receiver.Receiver.take.Statement.{statement}
+use Rattle.stream.proofs.receiver.Receiver.take.Tie as tie
+
+keep-requires : tie.Need-keep-requires
+unfolding takeTold
+keep-requires c κs =
+    let s = c .before .before .before .before .before .before .before .args in
+    let j = c .before .before .before .before .judge-take in
+    let able = take-able (s .self) (s .b .0) (s .e .now) (s .d .now) (j .result) (j .ensures) (c .before .before .enum-told .given .1) in
+    let held : length (s .self .held) ≡ 928 = search needs in
+    (able .reads, held)
+
+answer-requires : tie.Need-answer-requires
+unfolding takeTold
+answer-requires c κs =
+    let s = c .before .before .before .before .before .before .before .before .before .before .before .args in
+    let j = c .before .before .before .before .before .before .before .before .judge-take in
+    let able = take-able (s .self) (s .b .0) (s .e .now) (s .d .now) (j .result) (j .ensures) (c .before .before .before .before .before .before .enum-told .given .1) in
+    let held : length (c .before .before .before .keep .last .1 .1 .0) ≡ 928 = search needs in
+    (omega (arith, able .room, able .turn), held, able .writes)
+
+add-t21 : tie.Need-add-t21
+unfolding takeTold
+add-t21 c =
+    let s = c .before .before .before .before .before .before .before .before .before .before .before .before .before .before .args in
+    let j = c .before .before .before .before .before .before .before .before .before .before .before .judge-take in
+    let able = take-able (s .self) (s .b .0) (s .e .now) (s .d .now) (j .result) (j .ensures) (c .before .before .before .before .before .before .before .before .before .enum-told .given .1) in
+    omega (arith, able .room, able .turn)
+
+returns : tie.Need-returns
+unfolding takeTold takeAnswer
+returns c =
+    let s = c .before .before .before .before .before .before .args in
+    let j = c .before .before .before .judge-take in
+    let why = c .before .told .given in
+    refused-taking (takeTold (s .self) (s .b .0) (s .e .now) (s .d .now)) (s .self) (s .e .now) (s .d .now) (j .result) (j .ensures) (why .0 .0) (why .1)
+
+-- the code counts by the number that was given, which is the next one
+module _ (s : Receiver) (b : ℕ) (e d y : List ℕ) (turn : b ≡ s .next .0) (ey : y ≡ kept (s .held) b e) where
+  in-turn : y ≡ kept (s .held) (s .next .0) e
+  in-turn = ey ∙ ap (λ (n : ℕ). kept (s .held) n e) turn
+
+  said-in-turn : answered y b d ≡ answered (kept (s .held) (s .next .0) e) (s .next .0) d
+  said-in-turn = ap₂ (λ (x : List ℕ) (n : ℕ). answered x n d) in-turn turn
+
+  next-in-turn : _≡_ {A = Receiver} (record { next = record { 0 = b + 1 }; held = y }) (takenNext s e)
+  unfolding takenNext
+  next-in-turn = ap₂ (λ (n : ℕ) (x : List ℕ). record { next = record { 0 = n + 1 }; held = x }) turn in-turn
+
+returns-2 : tie.Need-returns-2
+unfolding takeTold takeAnswer
+returns-2 c =
+    let s = c .before .before .before .before .before .before .before .before .before .before .before .before .before .before .args in
+    let j = c .before .before .before .before .before .before .before .before .before .before .before .judge-take in
+    let done = c .before .before .before .before .before .before .before .before .before .enum-told .given .1 in
+    let able = take-able (s .self) (s .b .0) (s .e .now) (s .d .now) (j .result) (j .ensures) done in
+    let y = c .before .before .before .before .before .before .keep .last .1 .1 .0 in
+    let k = c .before .before .before .before .before .before .keep .ensures in
+    let a = c .before .before .answer .ensures in
+    let is = said-in-turn (s .self) (s .b .0) (s .e .now) (s .d .now) y (able .turn) k in
+    done-taking (takeTold (s .self) (s .b .0) (s .e .now) (s .d .now)) (s .self) (s .e .now) (s .d .now) (j .result) (j .ensures) _ _ _ done
+    (a .0 ∙ ap (λ (b : Brought). b .told) is)
+    (a .1 ∙ ap (λ (b : Brought). b .left) is)
+    (next-in-turn (s .self) (s .b .0) (s .e .now) (s .d .now) y (able .turn) k)
+
+pub take-spec : {M : Type 1} → statement M
+take-spec =
+    tie.close
+    (tie.spec
+    (λ c κs. search needs)
+    (λ c. search needs)
+    (λ c. search needs)
+    (λ c. search needs)
+    keep-requires
+    (λ c. search needs)
+    answer-requires
+    add-t21
+    returns
+    (λ c. search needs)
+    returns-2)

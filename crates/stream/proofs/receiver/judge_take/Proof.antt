@@ -1,0 +1,56 @@
+-- `stream::receiver::judge_take` is right: each answer is the case of `takeJudged` to which the tests on the way lead.
+use borrow.Author.Needs.{needs}
+use borrow.Author.Tests.{eq-eqb, ne-eqb, le-leb, lt-leb, not-true, not-false}
+use Rattle.stream.specs.Receiving.{takeJudged}
+use Rattle.stream.proofs.receiver.judge_take.Statement.{statement}
+use Rattle.stream.proofs.receiver.judge_take.Tie as tie
+
+returns : tie.Need-returns
+unfolding takeJudged
+returns c = simp (ne-eqb _ _ (c .if1 .taken))
+
+returns-2 : tie.Need-returns-2
+unfolding takeJudged
+returns-2 c = simp (eq-eqb _ _ (c .before .if1 .left), ne-eqb _ _ (c .if2 .taken))
+
+returns-3 : tie.Need-returns-3
+unfolding takeJudged
+returns-3 c = simp (eq-eqb _ _ (c .before .before .before .if1 .left), eq-eqb _ _ (c .before .before .if2 .left), ← c .before .are-bits .ensures, not-true (c .before .are-bits .result) (c .if3 .taken))
+
+returns-4 : tie.Need-returns-4
+unfolding takeJudged
+returns-4 c =
+    simp (
+      eq-eqb _ _ (c .before .before .before .before .if1 .left),
+      eq-eqb _ _ (c .before .before .before .if2 .left),
+      ← c .before .before .are-bits .ensures,
+      not-false (c .before .before .are-bits .result) (c .before .if3 .left),
+      le-leb _ _ (c .if4 .taken),
+    )
+
+returns-5 : tie.Need-returns-5
+unfolding takeJudged
+returns-5 c =
+    simp (
+      eq-eqb _ _ (c .before .before .before .before .before .if1 .left),
+      eq-eqb _ _ (c .before .before .before .before .if2 .left),
+      ← c .before .before .before .are-bits .ensures,
+      not-false (c .before .before .before .are-bits .result) (c .before .before .if3 .left),
+      lt-leb _ _ (c .before .if4 .left),
+      ne-eqb _ _ (c .if5 .taken),
+    )
+
+returns-6 : tie.Need-returns-6
+unfolding takeJudged
+returns-6 c =
+    simp (
+      eq-eqb _ _ (c .before .before .before .before .before .if1 .left),
+      eq-eqb _ _ (c .before .before .before .before .if2 .left),
+      ← c .before .before .before .are-bits .ensures,
+      not-false (c .before .before .before .are-bits .result) (c .before .before .if3 .left),
+      lt-leb _ _ (c .before .if4 .left),
+      eq-eqb _ _ (c .if5 .left),
+    )
+
+pub judge-take-spec : {M : Type 1} → statement M
+judge-take-spec = tie.close (tie.spec returns returns-2 (λ c κs. search needs) returns-3 returns-4 returns-5 returns-6)

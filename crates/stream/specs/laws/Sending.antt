@@ -1,0 +1,101 @@
+-- What holds where a send or an end is done, and how each ends.
+use mathlib.Core.Bool.{Bool, true, false}
+use mathlib.Core.List.{List}
+use mathlib.Core.Path.{_≡_, refl, sym, ap, _∙_}
+use Prim.Native.Nat.{ℕ, _<_}
+use native.Mathlib.Omega.{arith}
+use lib.Dec.{eqb, leb, lit≤}
+use lib.ListN.{length}
+use borrow.Author.Tests.{eqb-true, leb-false, eq-eqb, ne-eqb}
+use Rattle.bits.specs.Bits.{Bits, pick, both, allBits}
+use Rattle.bits.specs.laws.Cases.{both-first, both-second}
+use Rattle.bits.specs.laws.Check.{all-bits}
+use Rattle.coder.specs.Answers as coder
+use Rattle.coder.specs.Blocks.{speechBlock, controlBlock}
+use Rattle.coder.specs.Entries.{speechSent, controlSent}
+use Rattle.coder.specs.laws.Promises.{sends}
+use Rattle.coder.specs.declared.Told as coded
+use Rattle.stream.specs.Answers.{Meets}
+use Rattle.stream.specs.Sending.{isFacch, isBlock, blockOf, sendJudged, sendTold, endJudged, endTold, afterwards}
+use Rattle.stream.specs.declared.Refusal.{Refusal}
+use Rattle.stream.specs.declared.Told.{Told}
+use Rattle.stream.specs.declared.Told.the-variants.{Done, Refused}
+use Rattle.stream.specs.declared.sender.Sender.{Sender}
+
+-- ---- what `sender::begin` asks
+pub record Codable (d last e : List ℕ) : Type 0 where
+  pub bits : Bits d
+  pub reads : isBlock (length d) ≡ true
+  pub held : length last ≡ 456
+  pub writes : length e ≡ 464
+
+-- ---- done means that every test of `sendJudged` held
+pub record SendHeld (l b x f : Bool) : Type 0 where
+  pub lengths : l ≡ true
+  pub bits : b ≡ true
+  pub unended : x ≡ false
+  pub room : f ≡ false
+
+done-held : (l b x f : Bool) → sendJudged l b x f ≡ Done → SendHeld l b x f
+unfolding sendJudged
+done-held true true false false e = record { lengths = refl; bits = refl; unended = refl; room = refl }
+done-held true true false true e = let z : _≡_ {A = ℕ} 0 1 = cc in let w : ⊥ = omega arith in absurd w
+done-held true true true f e = let z : _≡_ {A = ℕ} 0 1 = cc in let w : ⊥ = omega arith in absurd w
+done-held true false x f e = let z : _≡_ {A = ℕ} 0 1 = cc in let w : ⊥ = omega arith in absurd w
+done-held false b x f e = let z : _≡_ {A = ℕ} 0 1 = cc in let w : ⊥ = omega arith in absurd w
+
+pub record Sendable (s : Sender) (d e : List ℕ) : Type 0 where
+  pub reads : isBlock (length d) ≡ true
+  pub writes : length e ≡ 464
+  pub bits : Bits d
+  pub room : s .sent .0 < 16383
+
+pub send-able : (s : Sender) (d e : List ℕ) (r : Told) → r ≡ sendTold s d e → r ≡ Done → Sendable s d e
+unfolding sendTold
+send-able s d e r h f =
+    let l : Bool = both (isBlock (length d)) (eqb (length e) 464) in
+    let held = done-held l (allBits d) (s .ended) (leb 16383 (s .sent .0)) (sym h ∙ f) in
+    record {
+      reads = both-first (isBlock (length d)) (eqb (length e) 464) (held .lengths);
+      writes = eqb-true (length e) 464 (both-second (isBlock (length d)) (eqb (length e) 464) (held .lengths));
+      bits = all-bits d (held .bits);
+      room = leb-false 16383 (s .sent .0) (held .room);
+    }
+
+end-length : (l x z : Bool) → endJudged l x z ≡ Done → l ≡ true
+unfolding endJudged
+end-length true x z e = refl
+end-length false x z e = let z : _≡_ {A = ℕ} 0 1 = cc in let w : ⊥ = omega arith in absurd w
+
+pub end-able : (s : Sender) (e : List ℕ) (r : Told) → r ≡ endTold s e → r ≡ Done → length e ≡ 464
+unfolding endTold
+end-able s e r h f = eqb-true (length e) 464 (end-length (eqb (length e) 464) (s .ended) (eqb (s .sent .0) 0) (sym h ∙ f))
+
+-- ---- the two ways in which a send or an end ends
+module _ (t : Told) (bursts : List ℕ) (next : Sender) (e : List ℕ) (s : Sender) (r : Told) (h : r ≡ t) where
+  pub done-afterwards : (after : List ℕ) (n : Sender) → r ≡ Done → after ≡ bursts → n ≡ next → Meets (afterwards t bursts next e s) r after n
+  unfolding afterwards
+  done-afterwards after n f ea en = rw (← h, f) (record { told = refl; left = ea; next = en })
+
+  pub refused-afterwards : (x : Refusal) → r ≡ Refused x → Meets (afterwards t bursts next e s) r e s
+  unfolding afterwards
+  refused-afterwards x f = rw (← h, f) (record { told = refl; left = refl; next = refl })
+
+-- ---- what coder's entries write
+module _ (d c : List ℕ) (bd : Bits d) (lc : length c ≡ 456) where
+  pub control-coded : (r : coded.Told) (after : List ℕ) → length d ≡ 184 → coder.Meets (controlSent d c) r after → after ≡ blockOf d
+  unfolding controlSent blockOf
+  control-coded r after ld m =
+      m .left ∙ ap (λ (a : coder.Answer coded.Told). a .left) (sends 184 456 0 d c (lit≤ tt) (record { reads = ld; bits = bd; lends = lc }) (controlBlock d))
+      ∙ rw (eq-eqb (length d) 184 ld) refl
+
+  pub speech-coded : (r : coded.Told) (after : List ℕ) → isBlock (length d) ≡ true → (length d ≡ 184 → ⊥) → coder.Meets (speechSent d c) r after → after ≡ blockOf d
+  unfolding speechSent blockOf
+  speech-coded r after reads other m =
+      let ld : length d ≡ 260 = is-speech (eqb (length d) 260) refl in
+      m .left ∙ ap (λ (a : coder.Answer coded.Told). a .left) (sends 260 456 0 d c (lit≤ tt) (record { reads = ld; bits = bd; lends = lc }) (speechBlock d))
+      ∙ rw (ne-eqb (length d) 184 other) refl
+    where
+      is-speech : (b : Bool) → eqb (length d) 260 ≡ b → length d ≡ 260
+      is-speech true e = eqb-true (length d) 260 e
+      is-speech false e = absurd (other (eqb-true (length d) 184 (sym (ap (λ (b : Bool). pick b true (isFacch (length d))) e) ∙ reads)))
