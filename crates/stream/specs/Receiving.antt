@@ -53,19 +53,14 @@ speechOf n h d = goodOrBad (h .good) (taken.Speech (record { 0 = n }) (h .count)
 unfoldable pub facchOf : ℕ → Hearing → List ℕ → Brought
 facchOf n h d = goodOrBad (h .good) (taken.Facch (record { 0 = n }) (h .count)) (h .bits ++ drop 184 d) (taken.Bad (record { 0 = n }) (h .count)) d
 
-unfoldable pub speechBrought : List ℕ → ℕ → List ℕ → Brought
-speechBrought held n d = speechOf n (speechHeard (own held n)) d
-
-unfoldable pub facchBrought : List ℕ → ℕ → List ℕ → Brought
-facchBrought held n d = facchOf n (blockHeard controlG 0 184 (own held n)) d
-
-unfoldable pub byKind : Kind → List ℕ → ℕ → List ℕ → Brought
-byKind kind.Speech held n d = speechBrought held n d
-byKind kind.Facch held n d = facchBrought held n d
-byKind kind.Neither held n d = record { told = taken.Tie (record { 0 = n }); left = d }
+-- of the coded bits c of block n, read as the kind that its flags say
+unfoldable pub byKind : Kind → ℕ → List ℕ → List ℕ → Brought
+byKind kind.Speech n c d = speechOf n (speechHeard c) d
+byKind kind.Facch n c d = facchOf n (blockHeard controlG 0 184 c) d
+byKind kind.Neither n c d = record { told = taken.Tie (record { 0 = n }); left = d }
 
 unfoldable pub brought : List ℕ → ℕ → List ℕ → Brought
-brought held n d = byKind (vote (flagCount held n)) held n d
+brought held n d = byKind (vote (flagCount held n)) n (own held n) d
 
 -- 01: burst 4n+7 brings the answer for block n; every other brings "waiting" and leaves the buffer
 abbrev pub brings : ℕ → Bool

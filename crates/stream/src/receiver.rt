@@ -9,9 +9,10 @@ ghost use Prim.Native.Nat.{_+_, _≤_, _<_};
 ghost use lib.Dec.{eqb, leb};
 ghost use lib.ListN.{length};
 ghost use Rattle.bits.specs.Bits.{allBits, both};
-ghost use Rattle.burst.specs.Places.{kept};
+ghost use Rattle.burst.specs.Places.{kept, own};
 ghost use Rattle.stream.specs.Answers.{Meets};
-ghost use Rattle.stream.specs.Receiving.{freshReceiver, takeJudged, vote, speechBrought, facchBrought, brought, answered, takeAnswer};
+ghost use Rattle.stream.specs.Receiving.{freshReceiver, takeJudged, vote, byKind, brought, answered, takeAnswer};
+ghost use Rattle.stream.specs.declared.receiver.Kind.the-variants.{Speech, Facch};
 
 // The number of the next burst, and the last eight bursts: burst B stands at 116 (B mod 8).
 pub struct Receiver {
@@ -80,7 +81,7 @@ fn vote(ones: u32) -> Kind
 // Block n as speech.
 fn speech(n: u16, held: &[u8], d: &mut [u8]) -> Taken
     requires { ⌜ (length (now held) ≡ 928) × (length (now d) ≡ 260) ⌝ }
-    ensures { λ r. ⌜ (r ≡ speechBrought (now (held .entry)) n (now (d .entry)) .told) × (now (d .exit) ≡ speechBrought (now (held .entry)) n (now (d .entry)) .left) ⌝ }
+    ensures { λ r. ⌜ (r ≡ byKind Speech n (own (now (held .entry)) n) (now (d .entry)) .told) × (now (d .exit) ≡ byKind Speech n (own (now (held .entry)) n) (now (d .entry)) .left) ⌝ }
 {
     let mut c = [0u8; 456];
     burst::gather_eight(burst::first_burst(BlockNumber(n)), held, &mut c);
@@ -96,7 +97,7 @@ fn speech(n: u16, held: &[u8], d: &mut [u8]) -> Taken
 // Block n as FACCH; the last 76 bytes are left.
 fn facch(n: u16, held: &[u8], d: &mut [u8]) -> Taken
     requires { ⌜ (length (now held) ≡ 928) × (length (now d) ≡ 260) ⌝ }
-    ensures { λ r. ⌜ (r ≡ facchBrought (now (held .entry)) n (now (d .entry)) .told) × (now (d .exit) ≡ facchBrought (now (held .entry)) n (now (d .entry)) .left) ⌝ }
+    ensures { λ r. ⌜ (r ≡ byKind Facch n (own (now (held .entry)) n) (now (d .entry)) .told) × (now (d .exit) ≡ byKind Facch n (own (now (held .entry)) n) (now (d .entry)) .left) ⌝ }
 {
     let mut c = [0u8; 456];
     burst::gather_eight(burst::first_burst(BlockNumber(n)), held, &mut c);

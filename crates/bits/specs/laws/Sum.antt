@@ -148,3 +148,9 @@ add-self (b ∷ w) bw =
     let h : b ≤ 1 = bw 0 in
     let e : sum b b ≡ 0 = omega arith in
     ap₂ (λ (x : ℕ) (l : List ℕ). x ∷ l) e (add-self w (λ k. bw (suc k)))
+
+pub at-zeros : (n k : ℕ) → getD (zeros n) k 0 ≡ 0
+unfolding zeros
+at-zeros zero k = refl
+at-zeros (suc n) zero = refl
+at-zeros (suc n) (suc k) = at-zeros n k

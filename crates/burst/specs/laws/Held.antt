@@ -1,17 +1,21 @@
 -- Among eight held bursts only the number modulo 8 counts; and what the loops over them need.
-use mathlib.Core.List.{List}
+use mathlib.Core.List.{List, _++_}
+use mathlib.Core.Logic.{⊎-elim}
 use mathlib.Core.Path.{_≡_, refl, sym, ap, ap₂, _∙_}
-use Prim.Native.Nat.{ℕ, zero, suc, _+_, _*_, _%_, _^_, _≤_, _<_}
+use Prim.Native.Nat.{ℕ, zero, suc, _+_, _-_, _*_, _%_, _^_, _≤_, _<_}
 use native.Mathlib.Nat.{pow-succ'}
 use native.Mathlib.Numerals.{add-one}
 use native.Mathlib.Omega.{arith}
 use lib.Count.{ones, ones-cat}
 use lib.Dec.{ltb, lit<}
-use lib.ListN.{getD}
+use lib.ListN.{length, getD, take, drop, length-append, length-drop}
+use lib.Seq.{length-take-le, getD-take, getD-drop}
 use lib.Pow.{pow-mono}
 use Rattle.bits.specs.Bits.{pick, total}
+use Rattle.bits.specs.laws.Cases.{lt-or-le}
+use Rattle.bits.specs.laws.Tab.{at-left, at-right}
 use Rattle.bits.specs.laws.Total.{total-same}
-use Rattle.burst.specs.Places.{heldBit, hl, hu}
+use Rattle.burst.specs.Places.{heldBit, kept, hl, hu}
 
 pub held-first : (held : List ℕ) (b r x : ℕ) → heldBit held (b % 8 + r) x ≡ heldBit held (b + r) x
 unfolding heldBit
@@ -62,3 +66,50 @@ gathered-all held b i flags g h =
     let e : i ≡ 8 = omega arith in
     g .2 ∙ ap (λ (k : ℕ). total k (flagFrom held (b % 8))) e
     ∙ total-same 8 (flagFrom held (b % 8)) (flagFrom held b) (λ k l. held-first held b k (pick (ltb k 4) hu hl))
+
+-- ---- a burst that is put in its place is found there, and the others stand
+module _ (held e : List ℕ) (B : ℕ) (lh : length held ≡ 928) (le : length e ≡ 116) where
+  abbrev at : ℕ
+  at = 116 * (B % 8)
+
+  abbrev front : List ℕ
+  front = take (116 * (B % 8)) held
+
+  abbrev rest : List ℕ
+  rest = drop (116 * (B % 8) + 116) held
+
+  front-long : length front ≡ at
+  front-long = length-take-le (116 * (B % 8)) held (omega (arith, lh))
+
+  pub kept-long : length (kept held B e) ≡ 928
+  unfolding kept
+  kept-long =
+      let a : ℕ = 116 * (B % 8) in
+      let l : length (drop (a + 116) held) ≡ length held - (a + 116) = length-drop (a + 116) held in
+      rw (length-append (take a held) (e ++ drop (a + 116) held), length-append e (drop (a + 116) held), length-take-le a held (omega (arith, lh)), le, l) (omega (arith, lh))
+
+  pub kept-same : (x : ℕ) → x < 116 → heldBit (kept held B e) B x ≡ getD e x 0 % 2
+  unfolding kept heldBit
+  kept-same x h =
+      ap (λ (v : ℕ). v % 2)
+      (at-right front (e ++ rest) at x (at + x) front-long refl ∙ at-left e rest x (omega (arith, le)))
+
+  pub kept-other : (b x : ℕ) → x < 116 → (b % 8 ≡ B % 8 → ⊥) → heldBit (kept held B e) b x ≡ heldBit held b x
+  unfolding kept heldBit
+  kept-other b x h other = ap (λ (v : ℕ). v % 2) (⊎-elim before behind (lt-or-le (b % 8) (B % 8)))
+    where
+      before : b % 8 < B % 8 → getD (front ++ (e ++ rest)) (116 * (b % 8) + x) 0 ≡ getD held (116 * (b % 8) + x) 0
+      before l =
+          at-left front (e ++ rest) (116 * (b % 8) + x) (rw front-long (omega (arith, l)))
+          ∙ getD-take (116 * (B % 8)) held (116 * (b % 8) + x) 0 (omega (arith, l))
+
+      behind : B % 8 ≤ b % 8 → getD (front ++ (e ++ rest)) (116 * (b % 8) + x) 0 ≡ getD held (116 * (b % 8) + x) 0
+      behind l =
+          let more : B % 8 < b % 8 = ⊎-elim (λ (m : B % 8 < b % 8). m) (λ (m : b % 8 ≤ B % 8). absurd (other (omega (arith, l, m)))) (lt-or-le (B % 8) (b % 8)) in
+          let i : ℕ = 116 * (b % 8) + x in
+          let j : ℕ = i - (at + 116) in
+          let same : at + 116 + j ≡ i = omega (arith, more) in
+          at-right front (e ++ rest) at (116 + j) i front-long (omega (arith, more))
+          ∙ at-right e rest 116 j (116 + j) le refl
+          ∙ getD-drop (at + 116) held j 0
+          ∙ ap (λ (k : ℕ). getD held k 0) same

@@ -1,11 +1,11 @@
 -- The promises are kept: an entry that is given what it should be sends its block, and three altered bits are corrected.
-use mathlib.Core.Bool.{true, false}
+use mathlib.Core.Bool.{Bool, true, false}
 use mathlib.Core.List.{List, _++_}
-use mathlib.Core.Path.{_≡_, refl, sym, ap, _∙_, subst}
+use mathlib.Core.Path.{_≡_, refl, sym, ap, ap₂, _∙_, subst}
 use Prim.Native.Nat.{ℕ, _+_, _*_, _≤_, _<_, _^_}
 use native.Mathlib.Omega.{arith}
 use lib.Dec.{leb, lit≤}
-use lib.ListN.{length, take, drop, length-append}
+use lib.ListN.{length, take, drop, length-append, length-drop}
 use lib.Seq.{take-at}
 use borrow.Author.Tests.{eq-eqb, le-leb}
 use Rattle.bits.specs.Bits.{Bits, allBits, add, digits, value, zeros}
@@ -146,7 +146,7 @@ unfolding schSent schReceived
 sch-promise = kept schG 0 25 78 (omega (arith, sch-long)) schBurst whole sch-codes (lit≤ tt)
 
 -- what stands at the places of a SACCH message is the control block
-control-size : (d : List ℕ) → length d ≡ 184 → Bits d → length (controlBlock d) ≡ 456
+pub control-size : (d : List ℕ) → length d ≡ 184 → Bits d → length (controlBlock d) ≡ 456
 unfolding controlBlock controlU
 control-size d ld bd =
     let p : List ℕ = parity controlG d in
@@ -175,17 +175,58 @@ access-promise i hi =
       λ j hj other d c e out gd ge few. kept-out accessG i 8 36 short (accessBurst i) whole (access-codes i) hi d c e out gd ge few j hj (below i hi) (below j hj) other,
     )
 
--- ---- speech
+-- ---- what is heard, which the streams tell in their own words
+hearing-is : (h : Hearing) (bits : List ℕ) (count : ℕ) → h .bits ≡ bits → h .good ≡ true → h .count ≡ count → h ≡ record { bits = bits; good = true; count = count }
+hearing-is h bits count eb eg ec =
+    ap₂ (λ (x : List ℕ) (y : Bool). record { bits = x; good = y; count = h .count }) eb eg ∙ ap (λ (k : ℕ). record { bits = bits; good = true; count = k }) ec
+
+pub control-hearing : (d c : List ℕ) → length d ≡ 184 → Bits d → disagreements c (controlBlock d) ≤ 3
+    → blockHeard controlG 0 184 c ≡ record { bits = d; good = true; count = disagreements c (controlBlock d) }
+control-hearing d c ld bd few =
+    let a : List ℕ = digits (length controlG) 0 in
+    let codes = control-codes d ld bd in
+    let la : length a ≡ length controlG = length-digits (length controlG) 0 in
+    let ba : Bits a = bits-digits (length controlG) 0 in
+    let fits : length d + length controlG + 4 ≤ 228 = omega (arith, ld, control-long) in
+    let fewer = subst (λ (x : List ℕ). disagreements c x ≤ 3) codes few in
+    let heard : ℕ → Hearing = λ k. blockHeard controlG 0 k c in
+    hearing-is (heard 184) d (disagreements c (controlBlock d))
+    (ap (λ (k : ℕ). heard k .bits) (sym ld) ∙ heard-bits controlG a d c bd la ba fits fewer 0)
+    (ap (λ (k : ℕ). heard k .good) (sym ld) ∙ heard-good controlG a d c bd la ba fits fewer 0 refl)
+    (ap (λ (k : ℕ). heard k .count) (sym ld) ∙ heard-count controlG a d c bd la ba fits fewer 0 ∙ ap (disagreements c) (sym codes))
+
+-- the protected bits of a speech block are the pairs of u
+pub speech-pairs : (d : List ℕ) → length d ≡ 260 → Bits d → take 378 (speechBlock d) ≡ coded (speechU d)
+unfolding speechBlock
+speech-pairs d ld bd =
+    let pairs : length (coded (speechU d)) ≡ 378 = length-coded (speechU d) ∙ ap (λ (k : ℕ). 2 * k) (length-u d bd ld) in
+    take-at (coded (speechU d)) (drop 182 d) 378 pairs
+
+pub speech-size : (d : List ℕ) → length d ≡ 260 → Bits d → length (speechBlock d) ≡ 456
+unfolding speechBlock
+speech-size d ld bd =
+    let pairs : length (coded (speechU d)) ≡ 378 = length-coded (speechU d) ∙ ap (λ (k : ℕ). 2 * k) (length-u d bd ld) in
+    let rest : length (drop 182 d) ≡ 78 = length-drop 182 d ∙ omega (arith, ld) in
+    length-append (coded (speechU d)) (drop 182 d) ∙ omega (arith, pairs, rest)
+
+pub speech-hearing : (d c : List ℕ) → length d ≡ 260 → Bits d → disagreements (take 378 c) (take 378 (speechBlock d)) ≤ 3
+    → speechHeard c ≡ record { bits = take 182 d ++ drop 378 c; good = true; count = disagreements (take 378 c) (take 378 (speechBlock d)) }
+speech-hearing d c ld bd few =
+    let is = speech-pairs d ld bd in
+    let fewer = subst (λ (x : List ℕ). disagreements (take 378 c) x ≤ 3) is few in
+    hearing-is (speechHeard c) (take 182 d ++ drop 378 c) (disagreements (take 378 c) (take 378 (speechBlock d)))
+    (speech-bits d ld bd c fewer) (speech-good d ld bd c fewer) (speech-count d ld bd c fewer ∙ ap (disagreements (take 378 c)) (sym is))
+
 pub speech-promise : SpeechPromise
-unfolding speechSent speechReceived speechBlock
+unfolding speechSent speechReceived
 speech-promise d c e out gd ge few =
     let sent = sends 260 456 0 d c (lit≤ tt) gd (speechBlock d) in
-    let pairs : length (coded (speechU d)) ≡ 378 = length-coded (speechU d) ∙ ap (λ (k : ℕ). 2 * k) (length-u d (gd .bits) (gd .reads)) in
-    let is : take 378 (entry 260 456 0 d (speechBlock d) c .left) ≡ coded (speechU d) = ap (λ (a : Answer Told). take 378 (a .left)) sent ∙ take-at (coded (speechU d)) (drop 182 d) 378 pairs in
-    let fewer = subst (λ (x : List ℕ). disagreements (take 378 e) x ≤ 3) is few in (
+    let is = ap (λ (a : Answer Told). take 378 (a .left)) sent in
+    let fewer = subst (λ (x : List ℕ). disagreements (take 378 e) x ≤ 3) is few in
+    let heard = speech-hearing d e (gd .reads) (gd .bits) fewer in (
       ap (λ (a : Answer Told). a .told) sent,
       hears-good 456 260 0 e out (lit≤ tt) ge (speechHeard e) (take 182 d ++ drop 378 e) (altered (take 378) (entry 260 456 0 d (speechBlock d) c .left) e)
-          (speech-good d (gd .reads) (gd .bits) e fewer)
-          (speech-count d (gd .reads) (gd .bits) e fewer ∙ ap (disagreements (take 378 e)) (sym is))
-          (speech-bits d (gd .reads) (gd .bits) e fewer),
+          (ap (λ (h : Hearing). h .good) heard)
+          (ap (λ (h : Hearing). h .count) heard ∙ ap (disagreements (take 378 e)) (sym is))
+          (ap (λ (h : Hearing). h .bits) heard),
     )

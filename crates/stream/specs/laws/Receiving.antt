@@ -10,7 +10,7 @@ use lib.Seq.{length-take-le, drop-drop}
 use borrow.Author.Tests.{eqb-true, leb-false, eq-eqb, ne-eqb, le-leb, lt-leb}
 use Rattle.bits.specs.Bits.{Bits, pick, both, allBits, tab, total}
 use Rattle.bits.specs.laws.Cases.{both-first, both-second}
-use Rattle.bits.specs.laws.Check.{all-bits}
+use Rattle.bits.specs.laws.Check.{all-bits, bits-all}
 use Rattle.bits.specs.laws.Tab.{bits-tab, length-tab}
 use Rattle.burst.specs.Places.{eAt, hl, hu, firstBurst, heldBit, kept, ownAt, own, flagAt, flagCount}
 use Rattle.coder.specs.Answers as coder
@@ -21,7 +21,7 @@ use Rattle.coder.specs.declared.Heard.the-variants as heard
 use Rattle.coder.specs.laws.Promises.{hears-good, hears-bad}
 use Rattle.parity.specs.Division.{controlG}
 use Rattle.stream.specs.Answers.{Meets}
-use Rattle.stream.specs.Receiving.{takeJudged, takeTold, vote, goodOrBad, speechOf, facchOf, speechBrought, facchBrought, byKind, brought, answered, takenNext, afterTaking}
+use Rattle.stream.specs.Receiving.{takeJudged, takeTold, vote, goodOrBad, speechOf, facchOf, byKind, brought, answered, takenNext, afterTaking, takeAnswer}
 use Rattle.stream.specs.declared.Refusal.{Refusal}
 use Rattle.stream.specs.declared.Told.{Told}
 use Rattle.stream.specs.declared.Told.the-variants as told
@@ -29,6 +29,7 @@ use Rattle.stream.specs.declared.Taken.{Taken}
 use Rattle.stream.specs.declared.Taken.the-variants as taken
 use Rattle.stream.specs.declared.receiver.Receiver.{Receiver}
 use Rattle.stream.specs.declared.receiver.Kind.{Kind}
+use Rattle.stream.specs.declared.receiver.Kind.the-variants.{Speech, Facch}
 
 -- ---- a burst in its place
 pub kept-is : (held e y : List ℕ) (B a : ℕ) → a ≡ 116 * (B % 8) → y ≡ e → take a held ++ (y ++ drop (a + 116 - a) (drop a held)) ≡ kept held B e
@@ -88,8 +89,8 @@ module _ (held d c : List ℕ) (n : ℕ) (ec : c ≡ own held n) (ld : length d 
   given out l = record { reads = ap length ec ∙ own-long held n; bits = subst Bits (sym ec) (own-bits held n); lends = l }
 
   pub speech-brought : coder.Meets (speechReceived c d) r after
-      → (asTaken (λ k. taken.Speech (record { 0 = n }) k) n r ≡ speechBrought held n d .told) × (after ≡ speechBrought held n d .left)
-  unfolding speechReceived speechBrought speechOf
+      → (asTaken (λ k. taken.Speech (record { 0 = n }) k) n r ≡ byKind Speech n (own held n) d .told) × (after ≡ byKind Speech n (own held n) d .left)
+  unfolding speechReceived byKind speechOf
   speech-brought said =
       let h : Hearing = speechHeard c in
       let good : ℕ → Taken = λ k. taken.Speech (record { 0 = n }) k in
@@ -104,8 +105,8 @@ module _ (held d c : List ℕ) (n : ℕ) (ec : c ≡ own held n) (ld : length d 
   rest false bits = take-append-drop 184 d
 
   pub facch-brought : coder.Meets (controlReceived c (take 184 d)) r after
-      → (asTaken (λ k. taken.Facch (record { 0 = n }) k) n r ≡ facchBrought held n d .told) × (after ++ drop 184 d ≡ facchBrought held n d .left)
-  unfolding controlReceived facchBrought facchOf
+      → (asTaken (λ k. taken.Facch (record { 0 = n }) k) n r ≡ byKind Facch n (own held n) d .told) × (after ++ drop 184 d ≡ byKind Facch n (own held n) d .left)
+  unfolding controlReceived byKind facchOf
   facch-brought said =
       let h : Hearing = blockHeard controlG 0 184 c in
       let good : ℕ → Taken = λ k. taken.Facch (record { 0 = n }) k in
@@ -118,9 +119,9 @@ module _ (held d c : List ℕ) (n : ℕ) (ec : c ≡ own held n) (ld : length d 
       )
 
 -- ---- by the kind that the flags say, and by the burst's number
-pub by-kind : (held d : List ℕ) (n : ℕ) (k k' : Kind) (ones : ℕ) → k ≡ k' → k ≡ vote ones → ones ≡ flagCount held n → byKind k' held n d ≡ brought held n d
+pub by-kind : (held d : List ℕ) (n : ℕ) (k k' : Kind) (ones : ℕ) → k ≡ k' → k ≡ vote ones → ones ≡ flagCount held n → byKind k' n (own held n) d ≡ brought held n d
 unfolding brought
-by-kind held d n k k' ones e ek eo = ap (λ (x : Kind). byKind x held n d) (sym e ∙ ek ∙ ap vote eo)
+by-kind held d n k k' ones e ek eo = ap (λ (x : Kind). byKind x n (own held n) d) (sym e ∙ ek ∙ ap vote eo)
 
 module _ (held d : List ℕ) (b : ℕ) where
   pub too-early : b < 7 → record { told = taken.Waiting; left = d } ≡ answered held b d
@@ -181,3 +182,10 @@ module _ (t : Told) (s : Receiver) (e d : List ℕ) (r : Told) (h : r ≡ t) whe
   pub refused-taking : (x : Refusal) → r ≡ told.Refused x → Meets (afterTaking t s e d) (taken.Refused x) d s
   unfolding afterTaking
   refused-taking x f = rw (← h, f) (record { told = refl; left = refl; next = refl })
+
+-- ---- a burst in turn is taken
+pub takes-on : (s : Receiver) (b : ℕ) (e d : List ℕ) → s .next .0 ≡ b → b < 65536 → length e ≡ 116 → Bits e → length d ≡ 260
+    → takeAnswer s b e d ≡ record { told = answered (kept (s .held) b e) b d .told; left = answered (kept (s .held) b e) b d .left; next = takenNext s e }
+unfolding takeAnswer takeTold takeJudged afterTaking
+takes-on s b e d turn room le be ld =
+    rw (turn, eq-eqb (length e) 116 le, eq-eqb (length d) 260 ld, bits-all e be, lt-leb 65536 b room, eq-eqb b b refl) refl

@@ -6,17 +6,17 @@ use Prim.Native.Nat.{ℕ, _<_}
 use native.Mathlib.Omega.{arith}
 use lib.Dec.{eqb, leb, lit≤}
 use lib.ListN.{length}
-use borrow.Author.Tests.{eqb-true, leb-false, eq-eqb, ne-eqb}
+use borrow.Author.Tests.{eqb-true, leb-false, eq-eqb, ne-eqb, lt-leb}
 use Rattle.bits.specs.Bits.{Bits, pick, both, allBits}
 use Rattle.bits.specs.laws.Cases.{both-first, both-second}
-use Rattle.bits.specs.laws.Check.{all-bits}
+use Rattle.bits.specs.laws.Check.{all-bits, bits-all}
 use Rattle.coder.specs.Answers as coder
 use Rattle.coder.specs.Blocks.{speechBlock, controlBlock}
 use Rattle.coder.specs.Entries.{speechSent, controlSent}
 use Rattle.coder.specs.laws.Promises.{sends}
 use Rattle.coder.specs.declared.Told as coded
 use Rattle.stream.specs.Answers.{Meets}
-use Rattle.stream.specs.Sending.{isFacch, isBlock, blockOf, sendJudged, sendTold, endJudged, endTold, afterwards}
+use Rattle.stream.specs.Sending.{isFacch, isBlock, blockOf, sendJudged, sendTold, sentBursts, sentNext, sendAnswer, endJudged, endTold, endBursts, endNext, endAnswer, afterwards}
 use Rattle.stream.specs.declared.Refusal.{Refusal}
 use Rattle.stream.specs.declared.Told.{Told}
 use Rattle.stream.specs.declared.Told.the-variants.{Done, Refused}
@@ -99,3 +99,17 @@ module _ (d c : List ℕ) (bd : Bits d) (lc : length c ≡ 456) where
       is-speech : (b : Bool) → eqb (length d) 260 ≡ b → length d ≡ 260
       is-speech true e = eqb-true (length d) 260 e
       is-speech false e = absurd (other (eqb-true (length d) 184 (sym (ap (λ (b : Bool). pick b true (isFacch (length d))) e) ∙ reads)))
+
+-- ---- a stream that is open and has room sends what may be sent, and ends where a block was sent
+pub sends-on : (s : Sender) (d e : List ℕ) → s .ended ≡ false → s .sent .0 < 16383 → isBlock (length d) ≡ true → Bits d → length e ≡ 464
+    → sendAnswer s d e ≡ record { told = Done; left = sentBursts s d; next = sentNext s d }
+unfolding sendAnswer sendTold sendJudged afterwards
+sends-on s d e unended room block bits le =
+    rw (block, eq-eqb (length e) 464 le, bits-all d bits, unended, lt-leb 16383 (s .sent .0) room) refl
+
+pub ends-on : (s : Sender) (e : List ℕ) → s .ended ≡ false → 0 < s .sent .0 → length e ≡ 464
+    → endAnswer s e ≡ record { told = Done; left = endBursts s; next = endNext s }
+unfolding endAnswer endTold endJudged afterwards
+ends-on s e unended some le =
+    let more : s .sent .0 ≡ 0 → ⊥ = λ (z : s .sent .0 ≡ 0). omega (arith, some, z) in
+    rw (eq-eqb (length e) 464 le, unended, ne-eqb (s .sent .0) 0 more) refl

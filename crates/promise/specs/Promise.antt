@@ -1,0 +1,133 @@
+-- Demand 3, for streams, over the definitions that the contracts of `stream` cite. Proved in laws/Promise.
+use mathlib.Core.Bool.{true}
+use mathlib.Core.List.{List, [], _∷_, _++_}
+use mathlib.Core.Path.{_≡_}
+use Prim.Native.Nat.{ℕ, zero, suc, _+_, _*_, _/_, _%_, _≤_, _<_}
+use lib.Dec.{ltb}
+use lib.ListN.{length, getD, take, drop}
+use Rattle.bits.specs.Bits.{Bits, pick, tab, total}
+use Rattle.burst.specs.Places.{eAt, placeAt, hl, hu, firstBurst}
+use Rattle.trellis.specs.Nearest.{disagreements}
+use Rattle.stream.specs.Answers.{Answer}
+use Rattle.stream.specs.Receiving.{Brought, vote, byKind, freshReceiver, takeAnswer}
+use Rattle.stream.specs.Sending.{isFacch, isBlock, freshSender, sendAnswer, endAnswer}
+use Rattle.stream.specs.declared.Taken.{Taken}
+use Rattle.stream.specs.declared.Taken.the-variants.{Waiting, Speech, Facch}
+use Rattle.stream.specs.declared.Told.the-variants.{Done}
+use Rattle.stream.specs.declared.receiver.Receiver.{Receiver}
+use Rattle.stream.specs.declared.sender.Sender.{Sender}
+
+-- ---- what is sent
+-- a block that may be sent: 260 bits of speech or 184 of FACCH
+pub record Valid (d : List ℕ) : Type 0 where
+  pub kind : isBlock (length d) ≡ true
+  pub bits : Bits d
+
+-- 1 to 16,383 of them
+pub record Lesson (ds : List (List ℕ)) : Type 0 where
+  pub some : 1 ≤ length ds
+  pub most : length ds ≤ 16383
+  pub each : (n : ℕ) → n < length ds → Valid (getD ds n [])
+
+-- each block is sent, and the stream is ended: the bytes that are then in the lent buffers, one buffer after another. `lent i` is what
+-- the buffer of call i held before
+unfoldable pub sendAll : Sender → (ℕ → List ℕ) → List (List ℕ) → List ℕ
+sendAll s lent [] = endAnswer s (lent 0) .left
+sendAll s lent (d ∷ ds) = sendAnswer s d (lent 0) .left ++ sendAll (sendAnswer s d (lent 0) .next) (λ i. lent (suc i)) ds
+
+unfoldable pub made : (ℕ → List ℕ) → List (List ℕ) → List ℕ
+made lent ds = sendAll freshSender lent ds
+
+-- ---- what is received: bursts in order from 0, to a fresh receiver. `out b` is what the buffer that is lent with burst b held before
+unfoldable pub burstOf : List ℕ → ℕ → List ℕ
+burstOf rx b = take 116 (drop (116 * b) rx)
+
+unfoldable pub after : List ℕ → (ℕ → List ℕ) → ℕ → Receiver
+after rx out zero = freshReceiver
+after rx out (suc b) = takeAnswer (after rx out b) b (burstOf rx b) (out b) .next
+
+unfoldable pub saysAt : List ℕ → (ℕ → List ℕ) → ℕ → Answer Taken Receiver
+saysAt rx out b = takeAnswer (after rx out b) b (burstOf rx b) (out b)
+
+-- some bursts as they arrive: M of them, all bits
+pub record Arrives (M : ℕ) (rx : List ℕ) (out : ℕ → List ℕ) : Type 0 where
+  pub long : length rx ≡ 116 * M
+  pub bits : Bits rx
+  pub lent : (b : ℕ) → length (out b) ≡ 260
+
+-- ---- what stands at the places of block n. 01: bit k in burst 4n + (k mod 8); the flags are hu of its first four bursts, hl of its last four
+unfoldable pub ownBits : List ℕ → ℕ → List ℕ
+ownBits rx n = tab 456 (λ k. getD rx (116 * (firstBurst n + k % 8) + eAt k) 0)
+
+unfoldable pub ownFlags : List ℕ → ℕ → List ℕ
+ownFlags rx n = tab 8 (λ i. getD rx (116 * (firstBurst n + i) + pick (ltb i 4) hu hl) 0)
+
+-- the protected bits of block d: of speech the first 378, of FACCH all
+unfoldable pub protected : List ℕ → List ℕ → List ℕ
+protected d c = pick (isFacch (length d)) c (take 378 c)
+
+-- how many of block n's own protected bits, and of its own flags, are not as sent
+unfoldable pub altered : List ℕ → List ℕ → List ℕ → ℕ → ℕ
+altered d sent rx n = disagreements (protected d (ownBits rx n)) (protected d (ownBits sent n))
+
+unfoldable pub flagsAltered : List ℕ → List ℕ → ℕ → ℕ
+flagsAltered sent rx n = disagreements (ownFlags rx n) (ownFlags sent n)
+
+-- the kind that was sent, n and the count; the protected bits as sent, the others as received. FACCH leaves the last 76 bytes
+unfoldable pub comesOut : List ℕ → ℕ → ℕ → List ℕ → List ℕ → Brought
+comesOut d n count c out =
+    pick (isFacch (length d)) (record { told = Facch (record { 0 = n }) count; left = d ++ drop 184 out })
+    (record { told = Speech (record { 0 = n }) count; left = take 182 d ++ drop 378 c })
+
+-- what is said at a burst, and what the buffer then holds
+abbrev pub Says : Answer Taken Receiver → Brought → Type 0
+Says a b = (a .told ≡ b .told) × (a .left ≡ b .left)
+
+-- ---- THE PROMISE: any lesson is sent and ended, and any bits arrive, as many as were sent. Whatever happened to other blocks: if at most
+-- three of block n's own protected bits and at most three of its own flags are altered, burst 4n+7 brings it.
+abbrev pub StreamPromise : Type 0
+StreamPromise =
+    (ds : List (List ℕ)) → Lesson ds → (lent : ℕ → List ℕ) → ((i : ℕ) → length (lent i) ≡ 464)
+    → (rx : List ℕ) (out : ℕ → List ℕ) → Arrives (4 * length ds + 4) rx out
+    → (n : ℕ) → n < length ds
+    → altered (getD ds n []) (made lent ds) rx n ≤ 3 → flagsAltered (made lent ds) rx n ≤ 3
+    → Says (saysAt rx out (4 * n + 7)) (comesOut (getD ds n []) n (altered (getD ds n []) (made lent ds) rx n) (ownBits rx n) (out (4 * n + 7)))
+
+-- every send and the end are done, and N blocks make 4N+4 bursts
+unfoldable pub AllDone : Sender → (ℕ → List ℕ) → List (List ℕ) → Type 0
+AllDone s lent [] = endAnswer s (lent 0) .told ≡ Done
+AllDone s lent (d ∷ ds) = (sendAnswer s d (lent 0) .told ≡ Done) × AllDone (sendAnswer s d (lent 0) .next) (λ i. lent (suc i)) ds
+
+abbrev pub BurstsMade : Type 0
+BurstsMade =
+    (ds : List (List ℕ)) → Lesson ds → (lent : ℕ → List ℕ) → ((i : ℕ) → length (lent i) ≡ 464)
+    → AllDone freshSender lent ds × (length (made lent ds) ≡ 116 * (4 * length ds + 4))
+
+-- 01: the odd places and hl of the first four bursts, and the even places and hu of the last four, are 0; hl counts as an odd place here, and
+-- hu as an even one
+abbrev pub IdleHalves : Type 0
+IdleHalves =
+    (ds : List (List ℕ)) → Lesson ds → (lent : ℕ → List ℕ) → ((i : ℕ) → length (lent i) ≡ 464)
+    → (i x : ℕ) → i < 4 → x < 116
+    → (placeAt x % 2 ≡ 1 → getD (made lent ds) (116 * i + x) 0 ≡ 0)
+    × (placeAt x % 2 ≡ 0 → getD (made lent ds) (116 * (4 * length ds + i) + x) 0 ≡ 0)
+
+-- ---- LOCALITY: whatever arrives, burst 4n+7 brings what stands at block n's places, and nothing else counts; every other burst brings
+-- "waiting"
+unfoldable pub heardAt : List ℕ → ℕ → List ℕ → Brought
+heardAt rx n out = byKind (vote (total 8 (λ i. getD (ownFlags rx n) i 0))) n (ownBits rx n) out
+
+abbrev pub Locality : Type 0
+Locality =
+    (M : ℕ) → M ≤ 65536 → (rx : List ℕ) (out : ℕ → List ℕ) → Arrives M rx out
+    → ((n : ℕ) → 4 * n + 7 < M → Says (saysAt rx out (4 * n + 7)) (heardAt rx n (out (4 * n + 7))))
+    × ((b : ℕ) → b < M → ((n : ℕ) → b ≡ 4 * n + 7 → ⊥) → Says (saysAt rx out b) (record { told = Waiting; left = out b }))
+
+-- a bad burst B costs the two blocks B/4 and B/4 - 1, and never a third: where two receptions differ in burst B alone, every other block's
+-- answer is the same
+abbrev pub NeverAThird : Type 0
+NeverAThird =
+    (M : ℕ) → M ≤ 65536 → (rx rx' : List ℕ) (out : ℕ → List ℕ) → Arrives M rx out → Arrives M rx' out
+    → (B : ℕ) → ((i : ℕ) → (i / 116 ≡ B → ⊥) → getD rx i 0 ≡ getD rx' i 0)
+    → (n : ℕ) → 4 * n + 7 < M → (n ≡ B / 4 → ⊥) → (n + 1 ≡ B / 4 → ⊥)
+    → (saysAt rx out (4 * n + 7) .told ≡ saysAt rx' out (4 * n + 7) .told) × (saysAt rx out (4 * n + 7) .left ≡ saysAt rx' out (4 * n + 7) .left)

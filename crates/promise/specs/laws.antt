@@ -1,0 +1,3 @@
+pub mod Sent
+pub mod Taken
+pub mod Promise

@@ -1,0 +1,128 @@
+-- What the receiver holds before burst b is the last eight bursts that arrived; so the answer for block n is made of what stands at its places.
+use mathlib.Core.List.{List}
+use mathlib.Core.Logic.{⊎-elim}
+use mathlib.Core.Path.{_≡_, refl, sym, ap, ap₂, _∙_, subst}
+use Prim.Native.Nat.{ℕ, zero, suc, _+_, _-_, _*_, _/_, _%_, _≤_, _<_}
+use native.Mathlib.Omega.{arith}
+use lib.Dec.{ltb, lit<}
+use lib.ListN.{length, getD, drop}
+use lib.Seq.{getD-take, getD-drop}
+use borrow.Author.Tests.{lt-ltb, le-ltb}
+use Rattle.bits.specs.Bits.{Bits, pick, total}
+use Rattle.bits.specs.laws.Cases.{lt-or-le}
+use Rattle.bits.specs.laws.Parts.{length-lent}
+use Rattle.bits.specs.laws.Sum.{bits-take, length-zeros}
+use Rattle.bits.specs.laws.Tab.{at-tab, tab-same}
+use Rattle.bits.specs.laws.Total.{total-same}
+use Rattle.burst.specs.Places.{eAt, hl, hu, firstBurst, heldBit, kept, ownAt, own, flagAt, flagCount}
+use Rattle.burst.specs.laws.Held.{kept-long, kept-same, kept-other}
+use Rattle.burst.specs.laws.Places.{every-bit}
+use Rattle.stream.specs.Answers.{Answer}
+use Rattle.stream.specs.Receiving.{Brought, vote, byKind, brought, answered, freshReceiver, takenNext, takeAnswer}
+use Rattle.stream.specs.declared.Taken.{Taken}
+use Rattle.stream.specs.declared.Taken.the-variants.{Waiting}
+use Rattle.stream.specs.declared.receiver.Receiver.{Receiver}
+use Rattle.stream.specs.laws.Receiving.{takes-on, too-early, not-last, is-last}
+use Rattle.promise.specs.Promise.{Arrives, burstOf, after, saysAt, ownBits, ownFlags, Says, heardAt}
+
+bits-drop : (n : ℕ) (w : List ℕ) → Bits w → Bits (drop n w)
+bits-drop n w bw k = subst (λ (x : ℕ). x ≤ 1) (sym (getD-drop n w k 0)) (bw (n + k))
+
+pub flag-in : (i : ℕ) → pick (ltb i 4) hu hl < 116
+flag-in i = ⊎-elim (λ (l : i < 4). rw (lt-ltb i 4 l) (lit< tt)) (λ (l : 4 ≤ i). rw (le-ltb i 4 l) (lit< tt)) (lt-or-le i 4)
+
+module _ (M : ℕ) (few : M ≤ 65536) (rx : List ℕ) (out : ℕ → List ℕ) (here : Arrives M rx out) where
+  burst-long : (b : ℕ) → b < M → length (burstOf rx b) ≡ 116
+  unfolding burstOf
+  burst-long b h = length-lent rx (116 * b) 116 (omega (arith, here .long))
+
+  burst-bits : (b : ℕ) → Bits (burstOf rx b)
+  unfolding burstOf
+  burst-bits b = bits-take 116 (drop (116 * b) rx) (bits-drop (116 * b) rx (here .bits))
+
+  burst-at : (b x : ℕ) → x < 116 → getD (burstOf rx b) x 0 ≡ getD rx (116 * b + x) 0
+  unfolding burstOf
+  burst-at b x h = getD-take 116 (drop (116 * b) rx) x 0 h ∙ getD-drop (116 * b) rx x 0
+
+  -- ---- what is held before burst b
+  record Along (s : Receiver) (b : ℕ) : Type 0 where
+    next : s .next .0 ≡ b
+    long : length (s .held) ≡ 928
+    holds : (a x : ℕ) → a < b → b ≤ a + 8 → x < 116 → heldBit (s .held) a x ≡ getD rx (116 * a + x) 0
+
+  module _ (s : Receiver) (b : ℕ) (h : b < M) (l : Along s b) where
+    taken : takeAnswer s b (burstOf rx b) (out b)
+        ≡ record { told = answered (kept (s .held) b (burstOf rx b)) b (out b) .told; left = answered (kept (s .held) b (burstOf rx b)) b (out b) .left; next = takenNext s (burstOf rx b) }
+    taken = takes-on s b (burstOf rx b) (out b) (l .next) (omega (arith, few)) (burst-long b h) (burst-bits b) (here .lent b)
+
+    -- the newest burst, and the seven before it
+    now-holds : (a x : ℕ) → a < suc b → suc b ≤ a + 8 → x < 116 → heldBit (kept (s .held) b (burstOf rx b)) a x ≡ getD rx (116 * a + x) 0
+    now-holds a x p q r = ⊎-elim older newest (lt-or-le a b)
+      where
+        older : a < b → heldBit (kept (s .held) b (burstOf rx b)) a x ≡ getD rx (116 * a + x) 0
+        older m =
+            kept-other (s .held) (burstOf rx b) b (l .long) (burst-long b h) a x r (λ (z : a % 8 ≡ b % 8). omega (arith, m, q, z))
+            ∙ l .holds a x m (omega (arith, q)) r
+
+        newest : b ≤ a → heldBit (kept (s .held) b (burstOf rx b)) a x ≡ getD rx (116 * a + x) 0
+        newest m =
+            let same : a ≡ b = omega (arith, m, p) in
+            let one : getD rx (116 * b + x) 0 ≤ 1 = here .bits (116 * b + x) in
+            ap (λ (k : ℕ). heldBit (kept (s .held) b (burstOf rx b)) k x) same
+            ∙ kept-same (s .held) (burstOf rx b) b (l .long) (burst-long b h) x r
+            ∙ ap (λ (v : ℕ). v % 2) (burst-at b x r)
+            ∙ omega (arith, one)
+            ∙ ap (λ (k : ℕ). getD rx (116 * k + x) 0) (sym same)
+
+    on : Along (takeAnswer s b (burstOf rx b) (out b) .next) (suc b)
+    unfolding takenNext
+    on = rw taken (record {
+      next = omega (arith, l .next);
+      long = ap (λ (k : ℕ). length (kept (s .held) k (burstOf rx b))) (l .next) ∙ kept-long (s .held) (burstOf rx b) b (l .long) (burst-long b h);
+      holds = λ a x p q r. ap (λ (k : ℕ). heldBit (kept (s .held) k (burstOf rx b)) a x) (l .next) ∙ now-holds a x p q r;
+    })
+
+  along : (b : ℕ) → b ≤ M → Along (after rx out b) b
+  unfolding after freshReceiver
+  along zero h = record { next = refl; long = length-zeros 928; holds = λ a x p q r. let z : ⊥ = omega (arith, p) in absurd z }
+  along (suc b) h = on (after rx out b) b h (along b (omega (arith, h)))
+
+  -- ---- the eight bursts of block n, when the last of them is taken
+  module _ (n : ℕ) (h : 4 * n + 7 < M) where
+    held : List ℕ
+    held = kept (after rx out (4 * n + 7) .held) (4 * n + 7) (burstOf rx (4 * n + 7))
+
+    own-is : own held n ≡ ownBits rx n
+    unfolding own ownAt ownBits held firstBurst
+    own-is = tab-same 456 (ownAt held n) (λ k. getD rx (116 * (firstBurst n + k % 8) + eAt k) 0)
+        (λ k l. now-holds (after rx out (4 * n + 7)) (4 * n + 7) h (along (4 * n + 7) (omega (arith, h))) (4 * n + k % 8) (eAt k) (omega arith) (omega arith) (every-bit k l .within))
+
+    flags-are : flagCount held n ≡ total 8 (λ i. getD (ownFlags rx n) i 0)
+    unfolding flagCount flagAt ownFlags held firstBurst
+    flags-are = total-same 8 (flagAt held n) (λ i. getD (ownFlags rx n) i 0)
+        (λ i l. now-holds (after rx out (4 * n + 7)) (4 * n + 7) h (along (4 * n + 7) (omega (arith, h))) (4 * n + i) (pick (ltb i 4) hu hl) (omega (arith, l)) (omega arith) (flag-in i)
+        ∙ sym (at-tab 8 (λ i. getD rx (116 * (4 * n + i) + pick (ltb i 4) hu hl) 0) i l))
+
+    pub brings-own : Says (saysAt rx out (4 * n + 7)) (heardAt rx n (out (4 * n + 7)))
+    unfolding saysAt heardAt brought held
+    brings-own =
+        let b : ℕ = 4 * n + 7 in
+        let d : List ℕ = out b in
+        let said = taken (after rx out b) b h (along b (omega (arith, h))) in
+        let last = is-last held d b (omega arith) (omega arith) in
+        let block : b / 4 - 1 ≡ n = omega arith in
+        let is : answered held b d ≡ byKind (vote (total 8 (λ i. getD (ownFlags rx n) i 0))) n (ownBits rx n) d =
+        sym last ∙ ap (λ (k : ℕ). brought held k d) block ∙ ap₂ (λ (f : ℕ) (c : List ℕ). byKind (vote f) n c d) flags-are own-is in
+        (ap (λ (a : Answer Taken Receiver). a .told) said ∙ ap (λ (x : Brought). x .told) is, ap (λ (a : Answer Taken Receiver). a .left) said ∙ ap (λ (x : Brought). x .left) is)
+
+  -- ---- and every other burst
+  module _ (b : ℕ) (h : b < M) (other : (n : ℕ) → b ≡ 4 * n + 7 → ⊥) where
+    waits : (held d : List ℕ) → record { told = Waiting; left = d } ≡ answered held b d
+    waits held d = ⊎-elim (λ (l : b < 7). too-early held d b l) (λ (l : 7 ≤ b). not-last held d b l (λ (z : b % 4 ≡ 3). other (b / 4 - 1) (omega (arith, l, z)))) (lt-or-le b 7)
+
+    pub brings-nothing : Says (saysAt rx out b) (record { told = Waiting; left = out b })
+    unfolding saysAt
+    brings-nothing =
+        let said = taken (after rx out b) b h (along b (omega (arith, h))) in
+        let is = sym (waits (kept (after rx out b .held) b (burstOf rx b)) (out b)) in
+        (ap (λ (a : Answer Taken Receiver). a .told) said ∙ ap (λ (x : Brought). x .told) is, ap (λ (a : Answer Taken Receiver). a .left) said ∙ ap (λ (x : Brought). x .left) is)
