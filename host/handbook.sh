@@ -16,3 +16,23 @@ handbook() {
     say "access 64 $(zeros 8) => refused 3"
     say "access? 64 $(zeros 36) => refused 3"
 }
+
+# The eight bursts of a stream of one block of speech, all zeros, with the first COUNT of its flags altered, as lines that take them.
+flagged() { # COUNT
+    printf 'send %s\nend\n' "$(zeros 260)" | run_proved kit | tr -d '\n' | awk -v altered="$1" '{
+        for (b = 0; b < 8; b++) {
+            e = substr($0, 116 * b + 1, 116)
+            flag = b < 4 ? 59 : 58
+            if (b < altered) e = substr(e, 1, flag - 1) (1 - substr(e, flag, 1)) substr(e, flag + 1)
+            print "take " b " " e
+        }
+    }'
+}
+
+# Three altered flags are repaired, four give 9.
+flags_as_printed() {
+    for altered in 0 1 2 3; do
+        [ "$(flagged $altered | run_proved kit | tail -n 1)" = "speech 0 0 $(zeros 260)" ] || return 1
+    done
+    [ "$(flagged 4 | run_proved kit | tail -n 1)" = 'refused 9 0' ]
+}

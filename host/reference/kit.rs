@@ -1,8 +1,11 @@
-//! The kit's line protocol: a word and its arguments, parted by single spaces.
+//! The kit's line protocol: a word and its arguments, parted by single spaces. One sending and one
+//! receiving stream live through all of the lines.
 
 use crate::coding;
 use crate::page::written;
-use crate::receiving::{self, Received};
+use crate::receiving::{self, Received, Refusal};
+use crate::receiving_stream::{Kind, Receiver, Taken};
+use crate::sending_stream::Sender;
 use crate::trellis;
 
 /// A line over this many bytes is not understood.
@@ -54,9 +57,32 @@ fn decoded(result: Received) -> String {
     }
 }
 
-/// The answer to a word and its arguments; nothing if they are not understood.
-fn answer_fields(fields: &[&[u8]]) -> Option<String> {
-    sending(fields).or_else(|| receiving(fields))
+/// "waiting"; or the kind, n, the count and the bits; or "refused" and what is returned besides.
+fn taken(result: Result<Taken, u8>) -> String {
+    match result {
+        Ok(Taken::Waiting) => "waiting".to_string(),
+        Ok(Taken::Good { n, kind, count, d }) => {
+            format!("{} {} {} {}", kind_word(kind), n, count, written(Ok(d)))
+        }
+        Ok(Taken::Bad { n, refusal }) => found_bad(n, refusal),
+        Err(refusal) => format!("refused {}", refusal),
+    }
+}
+
+/// The word for a kind.
+fn kind_word(kind: Kind) -> &'static str {
+    match kind {
+        Kind::Speech => "speech",
+        Kind::Facch => "facch",
+    }
+}
+
+/// "refused", the number, n, and the count if it is returned besides.
+fn found_bad(n: usize, refusal: Refusal) -> String {
+    match refusal.count {
+        Some(count) => format!("refused {} {} {}", refusal.number, n, count),
+        None => format!("refused {} {}", refusal.number, n),
+    }
 }
 
 /// The answer of a sending verb.
@@ -86,13 +112,64 @@ fn receiving(fields: &[&[u8]]) -> Option<String> {
     }
 }
 
-/// The answer to one line, without its newline.
-pub fn answer(line: &[u8]) -> String {
-    if line.len() > LONGEST_LINE {
-        return NOT_UNDERSTOOD.to_string();
+/// The kit: its sending and its receiving stream.
+pub struct Kit {
+    sender: Sender,
+    receiver: Receiver,
+}
+
+impl Kit {
+    /// Both streams are fresh.
+    pub fn fresh() -> Kit {
+        Kit {
+            sender: Sender::fresh(),
+            receiver: Receiver::fresh(),
+        }
     }
-    let fields: Vec<&[u8]> = line.split(|&byte| byte == b' ').collect();
-    answer_fields(&fields).unwrap_or_else(|| NOT_UNDERSTOOD.to_string())
+
+    /// The answer to one line, without its newline.
+    pub fn answer(&mut self, line: &[u8]) -> String {
+        if line.len() > LONGEST_LINE {
+            return NOT_UNDERSTOOD.to_string();
+        }
+        let fields: Vec<&[u8]> = line.split(|&byte| byte == b' ').collect();
+        self.answer_fields(&fields)
+            .unwrap_or_else(|| NOT_UNDERSTOOD.to_string())
+    }
+
+    /// The answer to a word and its arguments; nothing if they are not understood.
+    fn answer_fields(&mut self, fields: &[&[u8]]) -> Option<String> {
+        sending(fields)
+            .or_else(|| receiving(fields))
+            .or_else(|| self.streaming(fields))
+    }
+
+    /// The answer of a verb that calls a stream.
+    fn streaming(&mut self, fields: &[&[u8]]) -> Option<String> {
+        match fields {
+            [b"send", d] => Some(written(self.sender.send(&bits(d)))),
+            [b"end"] => Some(written(self.sender.end())),
+            [b"take", burst, e] => Some(taken(self.receiver.take(number(burst)?, &bits(e)))),
+            [b"fresh"] => {
+                *self = Kit::fresh();
+                Some("fresh".to_string())
+            }
+            _ => None,
+        }
+    }
+}
+
+/// The answer of a fresh kit to one line.
+#[cfg(test)]
+pub fn answer(line: &[u8]) -> String {
+    Kit::fresh().answer(line)
+}
+
+/// The answers of one kit to lines in their order.
+#[cfg(test)]
+pub fn answers(lines: &[Vec<u8>]) -> Vec<String> {
+    let mut kit = Kit::fresh();
+    lines.iter().map(|line| kit.answer(line)).collect()
 }
 
 #[cfg(test)]
@@ -107,7 +184,14 @@ mod tests {
 
     /// A page of lines in, a page of answers out.
     fn page_of(input: &[u8]) -> String {
-        String::from_utf8(page::answers(input, answer)).unwrap()
+        let mut kit = Kit::fresh();
+        String::from_utf8(page::answers(input, |line| kit.answer(line))).unwrap()
+    }
+
+    /// The answers of one kit to lines of text in their order.
+    fn answers_to(lines: &[&str]) -> Vec<String> {
+        let lines: Vec<Vec<u8>> = lines.iter().map(|line| line.as_bytes().to_vec()).collect();
+        answers(&lines)
     }
 
     #[test]
@@ -333,5 +417,170 @@ mod tests {
         ] {
             assert_eq!(answer_to(&line), "?", "{}", line);
         }
+    }
+
+    /// A send of ones.
+    fn send(length: usize) -> String {
+        format!("send {}", "1".repeat(length))
+    }
+
+    /// A take of zeros.
+    fn take(number: &str) -> String {
+        format!("take {} {}", number, "0".repeat(116))
+    }
+
+    #[test]
+    fn send_and_end_answer_464_bits() {
+        let answers = answers_to(&[&send(260), &send(184), "end", "end", &send(184)]);
+        for answer in &answers[..3] {
+            assert_eq!(answer.len(), 464);
+            assert!(answer.chars().all(|bit| bit == '0' || bit == '1'));
+        }
+        assert_eq!(answers[3..], ["refused 7", "refused 7"]);
+    }
+
+    #[test]
+    fn end_without_a_block_is_refused() {
+        assert_eq!(page_of(b"end\nend\n"), "refused 6\nrefused 6\n");
+    }
+
+    #[test]
+    fn zeros_taken_are_waited_for_and_then_refused() {
+        let lines: Vec<String> = (0..12).map(|number| take(&number.to_string())).collect();
+        let lines: Vec<&str> = lines.iter().map(|line| line.as_str()).collect();
+        let mut expected = vec!["waiting"; 12];
+        expected[7] = "refused 8 0 0";
+        expected[11] = "refused 8 1 0";
+        assert_eq!(answers_to(&lines), expected);
+    }
+
+    #[test]
+    fn four_flags_are_refused_with_n() {
+        // hu of the first four bursts is 1, hl of the last four is 0.
+        let mut kit = Kit::fresh();
+        for number in 0..8 {
+            let e = format!("{}01{}", "0".repeat(57), "0".repeat(57));
+            let answer = kit.answer(format!("take {} {}", number, e).as_bytes());
+            assert_eq!(answer, if number < 7 { "waiting" } else { "refused 9 0" });
+        }
+    }
+
+    #[test]
+    fn blocks_sent_are_taken() {
+        let (speech, facch) = ("0110100".repeat(38), "1101".repeat(46));
+        let mut kit = Kit::fresh();
+        let mut sent = kit.answer(format!("send {}", &speech[..260]).as_bytes());
+        sent += &kit.answer(format!("send {}", facch).as_bytes());
+        sent += &kit.answer(b"end");
+        let mut answers = Vec::new();
+        for (number, start) in (0..sent.len()).step_by(116).enumerate() {
+            let line = format!("take {:05} {}", number, &sent[start..start + 116]);
+            answers.push(kit.answer(line.as_bytes()));
+        }
+        let mut expected = vec!["waiting".to_string(); 12];
+        expected[7] = format!("speech 0 0 {}", &speech[..260]);
+        expected[11] = format!("facch 1 0 {}", facch);
+        assert_eq!(answers, expected);
+    }
+
+    #[test]
+    fn fresh_makes_both_streams_anew() {
+        let (send, first, second) = (send(184), take("0"), take("1"));
+        let lines = [&send, "end", &first, "fresh", "end", &second, &first, &send];
+        let answers = answers_to(&lines);
+        assert_eq!(answers[2..4], ["waiting", "fresh"]);
+        assert_eq!(answers[4..7], ["refused 6", "refused 4", "waiting"]);
+        assert_eq!(answers[7], answers[0]);
+    }
+
+    #[test]
+    fn other_lines_leave_the_streams() {
+        let (send, first, second) = (send(260), take("0"), take("1"));
+        let alone = answers_to(&[&send, &first, &send, &second, "end"]);
+        let between = answers_to(&[
+            &send,
+            "fresh ",
+            &first,
+            "trellis 11",
+            "Fresh",
+            &send,
+            "end ",
+            "",
+            &second,
+            "end",
+        ]);
+        let kept = [0, 2, 5, 8, 9].map(|k| between[k].clone());
+        assert_eq!(kept[..], alone[..]);
+    }
+
+    #[test]
+    fn stream_arguments_may_be_empty_but_must_be_there() {
+        assert_eq!(answer_to("send "), "refused 1");
+        assert_eq!(answer_to("take 0 "), "refused 1");
+        assert_eq!(answer_to("take 1 "), "refused 1");
+        for line in [
+            "send",
+            "send  ",
+            "end ",
+            "end 0",
+            " end",
+            "fresh ",
+            "fresh 1",
+            " fresh",
+            "take",
+            "take ",
+            "take 0",
+            "take  0",
+            "take 0  ",
+            "take 0 0 0",
+            "take 65536 ",
+            "take x ",
+            "take 000000 ",
+            "End",
+            "FRESH",
+            "sends 1",
+            "took 0 ",
+            "send? 1",
+            "take? 0 0",
+        ] {
+            assert_eq!(answer_to(line), "?", "{}", line);
+        }
+        let bits = "0".repeat(260);
+        for line in [
+            format!("send {} ", bits),
+            format!("send  {}", bits),
+            format!("take {}", &bits[..116]),
+            format!("take  {}", &bits[..116]),
+            format!("take 0  {}", &bits[..116]),
+            format!("take 0 {} ", &bits[..116]),
+            format!("take 0x0 {}", &bits[..116]),
+        ] {
+            assert_eq!(answer_to(&line), "?", "{}", line);
+        }
+    }
+
+    #[test]
+    fn stream_refusals_come_in_their_order() {
+        assert_eq!(answer_to("send 2"), "refused 1");
+        assert_eq!(answer_to(&format!("send {}", "2".repeat(184))), "refused 2");
+        assert_eq!(answer_to("take 65535 2"), "refused 1");
+        assert_eq!(
+            answer_to(&format!("take 65535 {}", "x".repeat(116))),
+            "refused 2"
+        );
+        assert_eq!(answer_to(&take("65535")), "refused 4");
+        assert_eq!(answer_to(&take("1")), "refused 4");
+        assert_eq!(answer_to(&take("00000")), "waiting");
+    }
+
+    #[test]
+    fn stream_lines_over_1000_bytes_are_not_read() {
+        assert_eq!(answer_to(&send(995)), "refused 1");
+        assert_eq!(answer_to(&send(996)), "?");
+        assert_eq!(
+            answer_to(&format!("take 0 {}", "0".repeat(993))),
+            "refused 1"
+        );
+        assert_eq!(answer_to(&format!("take 0 {}", "0".repeat(994))), "?");
     }
 }

@@ -100,6 +100,11 @@ pub fn number_of(random: &mut Random, value: usize) -> Vec<u8> {
     format!("{:0digits$}", value, digits = digits).into_bytes()
 }
 
+/// The characters of bits.
+pub fn characters(bits: &[u8]) -> Vec<u8> {
+    bits.iter().map(|bit| b'0' + bit).collect()
+}
+
 /// Bits as characters: all zeros, all ones, a single one, a single zero, or random.
 pub fn good_bits(random: &mut Random, length: usize) -> Vec<u8> {
     match random.below(12) {

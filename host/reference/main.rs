@@ -1,22 +1,30 @@
-//! The reference: sends the blocks of GSM 05.03 by the plainest reading of its formulas, and
-//! receives them by the fewest disagreements. Its answers are laid beside those of the kit and
-//! of the access sheet, line by line.
+//! The reference: sends the blocks and streams of GSM 05.03 by the plainest reading of its
+//! formulas, and receives them by the fewest disagreements. Its answers are laid beside those of
+//! the kit and of the access sheet, line by line.
 //!
 //! reference answer                     reads kit lines, prints the answers
 //! reference sheet                      reads access sheet lines, prints the answers
 //! reference make-lines SEED COUNT      prints COUNT kit lines that send
 //! reference make-received SEED COUNT   prints COUNT kit lines that receive
 //! reference make-views SEED COUNT      prints COUNT kit lines for the trellis view
+//! reference make-lessons SEED COUNT    prints COUNT kit lines of lessons, each on fresh streams
+//! reference make-stream SEED BLOCKS    prints the kit lines of one stream of BLOCKS blocks
+//! reference make-full SEED             prints the kit lines of one stream of 16,383 blocks
 //! reference make-sheet SEED COUNT      prints COUNT access sheet lines
 
 // Loops keep the index k of the standard, so that each reads like its formula.
 #![allow(clippy::needless_range_loop, clippy::manual_memcpy)]
 
+mod bench;
 mod burst;
+mod cable;
 mod coding;
 mod decoding;
+mod diagonal;
 mod exhaustive;
+mod full_lines;
 mod kit;
+mod lesson_lines;
 mod lines;
 mod lists;
 mod page;
@@ -24,17 +32,22 @@ mod polynomial;
 mod random;
 mod received_lines;
 mod receiving;
+mod receiving_stream;
+mod refused_calls;
+mod sending_stream;
 mod sheet;
 mod sheet_lines;
 mod survivors;
 mod trellis;
 mod view_lines;
 
+use crate::kit::Kit;
 use std::io::{Read, Result, Write};
 use std::process::ExitCode;
 
 const USAGE: &str = "usage: reference answer | sheet | make-lines SEED COUNT | \
-    make-received SEED COUNT | make-views SEED COUNT | make-sheet SEED COUNT";
+    make-received SEED COUNT | make-views SEED COUNT | make-lessons SEED COUNT | \
+    make-stream SEED BLOCKS | make-full SEED | make-sheet SEED COUNT";
 
 /// What the command line asks for.
 #[derive(Debug, PartialEq)]
@@ -44,6 +57,9 @@ enum Task {
     MakeLines(u64, u64),
     MakeReceived(u64, u64),
     MakeViews(u64, u64),
+    MakeLessons(u64, u64),
+    MakeStream(u64, u64),
+    MakeFull(u64),
     MakeSheet(u64, u64),
 }
 
@@ -53,6 +69,7 @@ fn task(arguments: &[String]) -> Option<Task> {
     match words.as_slice() {
         ["answer"] => Some(Task::Answer),
         ["sheet"] => Some(Task::Sheet),
+        ["make-full", seed] => Some(Task::MakeFull(seed.parse().ok()?)),
         [make, seed, count] => making(make, seed.parse().ok()?, count.parse().ok()?),
         _ => None,
     }
@@ -64,6 +81,8 @@ fn making(make: &str, seed: u64, count: u64) -> Option<Task> {
         "make-lines" => Some(Task::MakeLines(seed, count)),
         "make-received" => Some(Task::MakeReceived(seed, count)),
         "make-views" => Some(Task::MakeViews(seed, count)),
+        "make-lessons" => Some(Task::MakeLessons(seed, count)),
+        "make-stream" => Some(Task::MakeStream(seed, count)),
         "make-sheet" => Some(Task::MakeSheet(seed, count)),
         _ => None,
     }
@@ -79,11 +98,21 @@ fn standard_input() -> Result<Vec<u8>> {
 /// Does the task and prints what comes of it.
 fn run(task: Task) -> Result<()> {
     let output = match task {
-        Task::Answer => page::answers(&standard_input()?, kit::answer),
+        Task::Answer => {
+            let mut kit = Kit::fresh();
+            page::answers(&standard_input()?, |line| kit.answer(line))
+        }
         Task::Sheet => page::answers(&standard_input()?, sheet::answer),
         Task::MakeLines(seed, count) => page::made(seed, count, lines::line),
         Task::MakeReceived(seed, count) => page::made(seed, count, received_lines::line),
         Task::MakeViews(seed, count) => page::made(seed, count, view_lines::line),
+        Task::MakeLessons(seed, count) => {
+            page::made_together(seed, |random| lesson_lines::lessons(random, count as usize))
+        }
+        Task::MakeStream(seed, blocks) => {
+            page::made_together(seed, |random| lesson_lines::stream(random, blocks as usize))
+        }
+        Task::MakeFull(seed) => page::made_together(seed, full_lines::lines),
         Task::MakeSheet(seed, count) => page::made(seed, count, sheet_lines::line),
     };
     let mut paper = std::io::stdout();
@@ -118,7 +147,7 @@ mod tests {
     }
 
     #[test]
-    fn the_six_commands_are_known() {
+    fn the_nine_commands_are_known() {
         assert_eq!(task_of("answer"), Some(Task::Answer));
         assert_eq!(task_of("sheet"), Some(Task::Sheet));
         assert_eq!(task_of("make-lines 7 100"), Some(Task::MakeLines(7, 100)));
@@ -127,6 +156,12 @@ mod tests {
             Some(Task::MakeReceived(9, 300))
         );
         assert_eq!(task_of("make-views 6 400"), Some(Task::MakeViews(6, 400)));
+        assert_eq!(
+            task_of("make-lessons 5 500"),
+            Some(Task::MakeLessons(5, 500))
+        );
+        assert_eq!(task_of("make-stream 4 600"), Some(Task::MakeStream(4, 600)));
+        assert_eq!(task_of("make-full 3"), Some(Task::MakeFull(3)));
         assert_eq!(task_of("make-sheet 8 200"), Some(Task::MakeSheet(8, 200)));
     }
 
@@ -141,6 +176,12 @@ mod tests {
             "make-sheet 7 -1",
             "make-view 7 1",
             "make-received 7 1 1",
+            "make-lessons 7",
+            "make-stream 7",
+            "make-stream 7 x",
+            "make-full",
+            "make-full x",
+            "make-full 7 1",
         ] {
             assert_eq!(task_of(command), None, "{}", command);
         }

@@ -21,7 +21,7 @@ pub fn written(result: Result<Vec<u8>, u8>) -> String {
 }
 
 /// The answers to a page, one line for each of its lines.
-pub fn answers(page: &[u8], answer: fn(&[u8]) -> String) -> Vec<u8> {
+pub fn answers(page: &[u8], mut answer: impl FnMut(&[u8]) -> String) -> Vec<u8> {
     let mut answers = Vec::new();
     for line in lines_of(page) {
         answers.extend(answer(line).as_bytes());
@@ -30,12 +30,17 @@ pub fn answers(page: &[u8], answer: fn(&[u8]) -> String) -> Vec<u8> {
     answers
 }
 
-/// A page of made lines; about one page in two lacks the last newline.
+/// A page of made lines, each made by itself.
 pub fn made(seed: u64, count: u64, line: fn(&mut Random) -> Vec<u8>) -> Vec<u8> {
+    made_together(seed, |random| (0..count).map(|_| line(random)).collect())
+}
+
+/// A page of lines that are made together; about one page in two lacks the last newline.
+pub fn made_together(seed: u64, lines: impl FnOnce(&mut Random) -> Vec<Vec<u8>>) -> Vec<u8> {
     let mut random = Random::new(seed);
     let mut page = Vec::new();
-    for _ in 0..count {
-        page.extend(line(&mut random));
+    for line in lines(&mut random) {
+        page.extend(line);
         page.push(10);
     }
     if random.one_in(2) {

@@ -83,7 +83,7 @@ fn decoded(random: &mut Random, kind: Kind) -> Request {
     Request {
         word: kind.word,
         identity: lines::number_of(random, receiver),
-        bits: characters(&list),
+        bits: lines::characters(&list),
     }
 }
 
@@ -94,11 +94,6 @@ fn receiver_of(random: &mut Random, sender: usize) -> usize {
         1 => random.below(64),
         _ => sender,
     }
-}
-
-/// The characters of bits.
-fn characters(bits: &[u8]) -> Vec<u8> {
-    bits.iter().map(|bit| b'0' + bit).collect()
 }
 
 /// Coded bits as received, before they are put on bursts.
@@ -405,7 +400,7 @@ mod tests {
             let request = Request {
                 word: kind.word,
                 identity: b"7".to_vec(),
-                bits: characters(&list),
+                bits: lines::characters(&list),
             };
             assert_eq!(answer(&request.line()), "refused 8 0", "{}", kind.word);
         }

@@ -1,12 +1,15 @@
 // The kit by hand: each line of the input is a word and its arguments, and is answered by one line.
 mod answers;
 mod fields;
+mod streams;
 mod verbs;
 
+use streams::Streams;
+use streams::fresh_streams;
 use text::Span;
 use text::take_line;
 use text::write_line;
-use verbs::answer;
+use verbs::reply;
 
 fn main() {
     let mut chunk = [0u8; 4096];
@@ -18,13 +21,15 @@ fn main() {
 // Answers each line as it comes; the turns are counted, since nothing says that the input ends.
 fn answer_all(chunk: &mut [u8], line: &mut [u8]) {
     let mut rest = Span { at: 0, end: 0 };
+    let mut streams = fresh_streams();
     let mut turns = u64::MAX;
     while turns > 0 {
         let taken = take_line(chunk, rest, line);
         let kept = taken.kept;
         // a last line without its newline counts if it is not empty
         if taken.more || kept > 0 {
-            say(&line[0..kept]);
+            let next = say(streams, &line[0..kept]);
+            streams = next;
         }
         if !taken.more {
             return;
@@ -34,9 +39,10 @@ fn answer_all(chunk: &mut [u8], line: &mut [u8]) {
     }
 }
 
-// Writes the answer to a line.
-fn say(line: &[u8]) {
+// Writes the answer to a line; what comes back is the streams after it.
+fn say(streams: Streams, line: &[u8]) -> Streams {
     let mut out = [0u8; 1001];
-    let n = answer(line, &mut out);
-    write_line(&mut out, n);
+    let said = reply(streams, line, &mut out);
+    write_line(&mut out, said.n);
+    said.streams
 }

@@ -13,7 +13,14 @@ use crate::answers::speech;
 use crate::answers::trellis;
 use crate::fields::field;
 use crate::fields::fields;
+use crate::streams::Said;
+use crate::streams::Streams;
+use crate::streams::end;
+use crate::streams::fresh;
+use crate::streams::send;
+use crate::streams::take;
 use text::read_bits;
+use text::same;
 ghost use Prim.Native.Nat.{_≤_};
 ghost use lib.ListN.{length};
 
@@ -100,14 +107,61 @@ fn fits(verb: Verb, n: usize) -> bool {
     n == arguments(verb) + 1
 }
 
-// The answer to a line, without its newline.
-pub fn answer(line: &[u8], out: &mut [u8]) -> usize
+// What a line asks of the streams, if it does.
+enum Call {
+    Send,
+    End,
+    Take,
+    Fresh,
+    Other,
+}
+
+// The call of a word with so many fields in its line.
+fn call_of(word: &[u8], n: usize) -> Call {
+    if n == 2 && same(word, b"send") {
+        return Call::Send;
+    }
+    if n == 1 && same(word, b"end") {
+        return Call::End;
+    }
+    if n == 3 && same(word, b"take") {
+        return Call::Take;
+    }
+    if n == 1 && same(word, b"fresh") {
+        return Call::Fresh;
+    }
+    Call::Other
+}
+
+// The answer to a line, without its newline, and the streams after it.
+pub fn reply(streams: Streams, line: &[u8], out: &mut [u8]) -> Said
     requires { ⌜ 1000 ≤ length (now out) ⌝ }
-    ensures { λ r. ⌜ r ≤ 1000 ⌝ }
+    ensures { λ r. ⌜ r .n ≤ 1000 ⌝ }
 {
     if line.len() > 1000 {
-        return put_unknown(out);
+        return Said {
+            n: put_unknown(out),
+            streams,
+        };
     }
+    let call = call_of(field(line, 0), fields(line));
+    match call {
+        Call::Send => send(streams, line, out),
+        Call::End => end(streams, out),
+        Call::Take => take(streams, line, out),
+        Call::Fresh => fresh(out),
+        Call::Other => Said {
+            n: answer(line, out),
+            streams,
+        },
+    }
+}
+
+// The answer to a line that asks nothing of the streams.
+fn answer(line: &[u8], out: &mut [u8]) -> usize
+    requires { ⌜ (length (now line) ≤ 1000) × (1000 ≤ length (now out)) ⌝ }
+    ensures { λ r. ⌜ r ≤ 1000 ⌝ }
+{
     let verb = verb_of(field(line, 0));
     if !fits(verb, fields(line)) {
         return put_unknown(out);
@@ -130,16 +184,4 @@ pub fn answer(line: &[u8], out: &mut [u8]) -> usize
         Verb::Trellis => trellis(bits, out),
         Verb::Unknown => put_unknown(out),
     }
-}
-
-fn same(a: &[u8], b: &[u8]) -> bool {
-    if a.len() != b.len() {
-        return false;
-    }
-    for i in 0..a.len() {
-        if a[i] != b[i] {
-            return false;
-        }
-    }
-    true
 }

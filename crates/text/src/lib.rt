@@ -15,3 +15,4 @@ pub use put::put_word;
 pub use read::digit;
 pub use read::find;
 pub use read::read_bits;
+pub use read::same;

@@ -39,3 +39,16 @@ pub fn digit(character: u8) -> u8 {
     }
     character - b'0'
 }
+
+// Are the two the same bytes?
+pub fn same(a: &[u8], b: &[u8]) -> bool {
+    if a.len() != b.len() {
+        return false;
+    }
+    for i in 0..a.len() {
+        if a[i] != b[i] {
+            return false;
+        }
+    }
+    true
+}

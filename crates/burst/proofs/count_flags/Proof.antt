@@ -23,7 +23,7 @@ mul-flags c =
     omega (arith, gathered-fits (flagFrom (c .before .before .before .before .args .held .now) (c .before .before .before .before .args .b .0 % 8)) (l .i) (l .flags) 0 (l .inv) (c .loop-test .taken) (omega arith))
 
 held-bit-requires : tie.Need-held-bit-requires Inv-loop μ-loop
-held-bit-requires c κs = (omega arith, c .before .loop-test .taken, c .flag-index .ensures .1, c .before .before .before .before .before .pre)
+held-bit-requires c κs = (omega arith, omega (arith, c .before .loop-test .taken), c .flag-index .ensures .1, c .before .before .before .before .before .pre)
 
 add-flags : tie.Need-add-flags Inv-loop μ-loop
 add-flags c =

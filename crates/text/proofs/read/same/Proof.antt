@@ -2,8 +2,8 @@
 use Prim.Native.Nat.{_-_, _≤_}
 use borrow.Author.Needs.{needs}
 use lib.ListN.{length}
-use Rattle.kit.proofs.verbs.same.Statement.{statement}
-use Rattle.kit.proofs.verbs.same.Tie as tie
+use Rattle.text.proofs.read.same.Statement.{statement}
+use Rattle.text.proofs.read.same.Tie as tie
 
 abbrev Inv-loop : tie.InvT-loop
 Inv-loop a b i₀ i-end i = i ≤ length a

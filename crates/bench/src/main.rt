@@ -1,0 +1,81 @@
+// What host/bench counts: a line names an entry, and how many times it is called, 1 or 2; of the takes, how many bursts, up to 8. The number that the last call told is
+// written; what an entry must tell is tested elsewhere.
+mod blocks;
+mod streams;
+
+use text::Span;
+use text::digit;
+use text::put_number;
+use text::same;
+use text::take_line;
+use text::write_line;
+ghost use Prim.Native.Nat.{_≤_};
+ghost use lib.ListN.{length};
+
+fn main() {
+    let mut chunk = [0u8; 4096];
+    let mut line = [0u8; 80];
+    let taken = take_line(&mut chunk, Span { at: 0, end: 0 }, &mut line);
+    let kept = taken.kept;
+    run(&line[0..kept]);
+}
+
+// NAME CALLS
+fn run(line: &[u8]) {
+    if line.len() < 3 {
+        return;
+    }
+    let end = line.len() - 2;
+    let calls = digit(line[end + 1]);
+    let told = call(&line[0..end], calls);
+    let mut out = [0u8; 40];
+    let n = put_number(&mut out, 0, told as u64);
+    write_line(&mut out, n);
+}
+
+// The entry of a name, called so many times.
+fn call(name: &[u8], calls: u8) -> u32 {
+    if same(name, b"speech-encode") {
+        return blocks::speech_encode(calls);
+    }
+    if same(name, b"speech-decode") {
+        return blocks::speech_decode(calls);
+    }
+    if same(name, b"control-encode") {
+        return blocks::control_encode(calls);
+    }
+    if same(name, b"control-decode") {
+        return blocks::control_decode(calls);
+    }
+    if same(name, b"sacch-encode") {
+        return blocks::sacch_encode(calls);
+    }
+    if same(name, b"sacch-decode") {
+        return blocks::sacch_decode(calls);
+    }
+    if same(name, b"access-encode") {
+        return blocks::access_encode(calls);
+    }
+    if same(name, b"access-decode") {
+        return blocks::access_decode(calls);
+    }
+    if same(name, b"sch-encode") {
+        return blocks::sch_encode(calls);
+    }
+    if same(name, b"sch-decode") {
+        return blocks::sch_decode(calls);
+    }
+    if same(name, b"send-speech") {
+        return streams::send_speech(calls);
+    }
+    if same(name, b"send-facch") {
+        return streams::send_facch(calls);
+    }
+    if same(name, b"take-speech") {
+        return streams::take_speech(calls);
+    }
+    if same(name, b"take-facch") {
+        return streams::take_facch(calls);
+    }
+    65535
+}

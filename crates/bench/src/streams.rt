@@ -1,0 +1,105 @@
+// The streams: a sender that sends a block once or twice, and a receiver that takes the bursts of a block.
+use crate::blocks::fill;
+use burst::BurstNumber;
+use stream::Taken;
+use stream::Told;
+use stream::receiver::Receiver;
+use stream::sender::Sender;
+ghost use Prim.Native.Nat.{_≤_};
+ghost use mathlib.Core.Path.{_≡_};
+ghost use lib.ListN.{length};
+
+fn of_told(told: Told) -> u32 {
+    match told {
+        Told::Done => 0,
+        Told::Refused(why) => stream::number(why) as u32,
+    }
+}
+
+// Two numbers, since a good block is told by its kind and count, and a wait by 0.
+fn of_taken(told: Taken) -> u32 {
+    match told {
+        Taken::Waiting => 0,
+        Taken::Speech(n, count) => 1000 + count as u32,
+        Taken::Facch(n, count) => 2000 + count as u32,
+        Taken::Refused(why) => 65536 * stream::number(why) as u32,
+        Taken::Bad(n, count) => 65536 * 8 + count as u32,
+        Taken::Tie(n) => 65536 * 9,
+    }
+}
+
+pub fn send_speech(calls: u8) -> u32 {
+    let mut d = [0u8; 260];
+    fill(&mut d);
+    send(calls, &d)
+}
+
+pub fn send_facch(calls: u8) -> u32 {
+    let mut d = [0u8; 184];
+    fill(&mut d);
+    send(calls, &d)
+}
+
+fn send(calls: u8, d: &[u8]) -> u32 {
+    let mut e = [0u8; 464];
+    let sender = Sender::fresh();
+    let sent = sender.send(d, &mut e);
+    let told = sent.told;
+    if calls < 2 {
+        return of_told(told);
+    }
+    let next = sent.next;
+    let again = next.send(d, &mut e);
+    let said = again.told;
+    of_told(said)
+}
+
+pub fn take_speech(calls: u8) -> u32 {
+    let mut d = [0u8; 260];
+    fill(&mut d);
+    take(calls, &d)
+}
+
+pub fn take_facch(calls: u8) -> u32 {
+    let mut d = [0u8; 184];
+    fill(&mut d);
+    take(calls, &d)
+}
+
+// The bursts of a block that is sent and ended, taken in order.
+fn take(calls: u8, d: &[u8]) -> u32 {
+    let mut e = [0u8; 928];
+    make(d, &mut e);
+    take_all(calls, &e)
+}
+
+// A block that is sent and ended.
+fn make(d: &[u8], e: &mut [u8])
+    requires { ⌜ length (now e) ≡ 928 ⌝ }
+{
+    let fresh = Sender::fresh();
+    let sent = fresh.send(d, &mut e[0..464]);
+    let open = sent.next;
+    open.end(&mut e[464..928]);
+}
+
+fn take_all(calls: u8, e: &[u8]) -> u32
+    requires { ⌜ length (now e) ≡ 928 ⌝ }
+{
+    let mut d = [0u8; 260];
+    let mut receiver = Receiver::fresh();
+    let mut told = 0;
+    for b in 0..calls {
+        if b > 7 {
+            return told;
+        }
+        let from = 116 * b as usize;
+        let to = from + 116;
+        let received = receiver.take(BurstNumber(b as u32), &e[from..to], &mut d);
+        let said = received.told;
+        told = of_taken(said);
+        let next = received.next;
+        receiver = next;
+    }
+    told
+}

@@ -1,0 +1,218 @@
+//! The cable: alters the bursts of an ended stream, block by block and burst by burst.
+
+use crate::diagonal::{self, BURST};
+use crate::lists::{self, random_bits};
+use crate::random::Random;
+
+/// The cable of a lesson: quiet and noisy stretches, altered flags, bad bursts.
+pub fn lesson(random: &mut Random, bursts: &mut [Vec<u8>]) {
+    let mut noisy = random.one_in(3);
+    for n in 0..blocks(bursts) {
+        if random.one_in(6) {
+            noisy = !noisy;
+        }
+        let noise = if noisy { noisy_bits } else { quiet_bits };
+        change_bits(bursts, n, |c| noise(random, c));
+        let number = altered_flags(random);
+        alter_flags(random, bursts, n, number);
+    }
+    for burst in 0..bursts.len() {
+        match random.below(120) {
+            0..=2 => spoil_burst(random, bursts, burst),
+            3 => silence(random, bursts, burst),
+            _ => {}
+        }
+    }
+}
+
+/// The cable of a long stream: few bits and flags altered now and then, a bad burst seldom.
+pub fn light(random: &mut Random, bursts: &mut [Vec<u8>]) {
+    for n in 0..blocks(bursts) {
+        match random.below(100) {
+            0..=11 => change_bits(bursts, n, |c| quiet_bits(random, c)),
+            12 | 13 => alter_flags(random, bursts, n, 3),
+            14 => alter_flags(random, bursts, n, 4),
+            _ => {}
+        }
+    }
+    for burst in 0..bursts.len() {
+        if random.one_in(1000) {
+            spoil_burst(random, bursts, burst);
+        }
+    }
+}
+
+/// N blocks make 4N+4 bursts.
+fn blocks(bursts: &[Vec<u8>]) -> usize {
+    (bursts.len() / 4).saturating_sub(1)
+}
+
+/// Changes the coded bits of block n, and nothing else.
+fn change_bits(bursts: &mut [Vec<u8>], n: usize, change: impl FnOnce(&mut [u8])) {
+    let mut c = diagonal::bits(bursts, n);
+    change(&mut c);
+    diagonal::put_bits(bursts, n, &c);
+}
+
+/// 0 to 3 altered bits, or only bits that are unprotected in speech.
+fn quiet_bits(random: &mut Random, c: &mut [u8]) {
+    let (few, many) = (random.below(4), random.below(79));
+    match random.below(8) {
+        0 => lists::alter(random, &mut c[378..], many),
+        // Three bits that are protected in speech too.
+        1 | 2 => lists::alter(random, &mut c[..378], 3),
+        _ => lists::alter(random, c, few),
+    }
+}
+
+/// 4 to 60 altered bits, or half of the way to another candidate.
+fn noisy_bits(random: &mut Random, c: &mut [u8]) {
+    let number = random.pick(&[4, 5, 6, 7, 8, 10, 12, 15, 20, 30, 45, 60]);
+    match random.below(5) {
+        // The candidates of speech, 189 bits, are candidates of FACCH too.
+        0 => lists::move_midway(random, c, 189),
+        _ => lists::alter(random, c, number),
+    }
+}
+
+/// How many of a block's flags are altered: mostly none, or so many that the vote is near.
+fn altered_flags(random: &mut Random) -> usize {
+    match random.below(20) {
+        0 => 1 + random.below(2),
+        1..=3 => 3,
+        4 | 5 => 4,
+        6 => 5,
+        7 => 6 + random.below(3),
+        _ => 0,
+    }
+}
+
+/// Alters so many of the eight flags of block n.
+fn alter_flags(random: &mut Random, bursts: &mut [Vec<u8>], n: usize, number: usize) {
+    let mut flags = diagonal::flags(bursts, n);
+    lists::alter(random, &mut flags, number);
+    diagonal::put_flags(bursts, n, &flags);
+}
+
+/// A single burst inverted, with its flags or without, zeroed, all ones, random or the one before.
+fn spoil_burst(random: &mut Random, bursts: &mut [Vec<u8>], burst: usize) {
+    let inverted = bursts[burst].iter().map(|bit| 1 - bit);
+    bursts[burst] = match random.below(7) {
+        0 | 1 => inverted.collect(),
+        2 => {
+            let mut e: Vec<u8> = inverted.collect();
+            e[57..=58].copy_from_slice(&bursts[burst][57..=58]);
+            e
+        }
+        3 => vec![0; BURST],
+        4 => vec![1; BURST],
+        5 => random_bits(random, BURST),
+        _ => bursts[burst.saturating_sub(1)].clone(),
+    };
+}
+
+/// The cable is off for some bursts, which are all zeros.
+fn silence(random: &mut Random, bursts: &mut [Vec<u8>], first: usize) {
+    let last = bursts.len().min(first + 2 + random.below(8));
+    for e in &mut bursts[first..last] {
+        e.fill(0);
+    }
+}
+
+#[cfg(test)]
+mod tests {
+    use super::*;
+
+    /// The bursts of so many blocks, all zeros.
+    fn zeros(blocks: usize) -> Vec<Vec<u8>> {
+        vec![vec![0; BURST]; 4 * blocks + 4]
+    }
+
+    /// The number of ones.
+    fn ones(bits: &[u8]) -> usize {
+        bits.iter().filter(|&&bit| bit == 1).count()
+    }
+
+    #[test]
+    fn bursts_stay_bursts() {
+        let mut random = Random::new(71);
+        for number in 0..20 {
+            for cable in [lesson, light] {
+                let mut bursts = if number == 0 {
+                    Vec::new()
+                } else {
+                    zeros(number)
+                };
+                let length = bursts.len();
+                cable(&mut random, &mut bursts);
+                assert_eq!(bursts.len(), length);
+                assert!(bursts.iter().all(|e| e.len() == BURST));
+                assert!(bursts.concat().iter().all(|&bit| bit <= 1));
+            }
+        }
+    }
+
+    #[test]
+    fn only_the_block_that_is_meant_is_altered() {
+        let mut random = Random::new(72);
+        for number in 0..=8 {
+            let mut bursts = zeros(3);
+            change_bits(&mut bursts, 1, |c| noisy_bits(&mut random, c));
+            alter_flags(&mut random, &mut bursts, 1, number);
+            assert!(ones(&diagonal::bits(&bursts, 1)) >= 2);
+            assert_eq!(ones(&diagonal::flags(&bursts, 1)), number);
+            for n in [0, 2] {
+                assert_eq!(ones(&diagonal::bits(&bursts, n)), 0);
+                assert_eq!(ones(&diagonal::flags(&bursts, n)), 0);
+            }
+        }
+    }
+
+    #[test]
+    fn only_the_burst_that_is_meant_is_spoiled() {
+        let mut random = Random::new(73);
+        for burst in (0..8).cycle().take(100) {
+            let sent: Vec<Vec<u8>> = (0..8).map(|_| random_bits(&mut random, BURST)).collect();
+            let mut bursts = sent.clone();
+            spoil_burst(&mut random, &mut bursts, burst);
+            for other in (0..8).filter(|&other| other != burst) {
+                assert_eq!(bursts[other], sent[other]);
+            }
+        }
+    }
+
+    #[test]
+    fn every_number_of_flags_is_altered() {
+        let mut random = Random::new(74);
+        let mut seen = [0; 9];
+        for _ in 0..2000 {
+            seen[altered_flags(&mut random)] += 1;
+        }
+        assert!(seen.iter().all(|&times| times > 20), "{:?}", seen);
+        assert!(seen[3] > 200 && seen[4] > 100);
+    }
+
+    #[test]
+    fn quiet_blocks_are_within_the_promise() {
+        let mut random = Random::new(75);
+        let mut seen = [0; 4];
+        for _ in 0..1000 {
+            let mut c = vec![0; 456];
+            quiet_bits(&mut random, &mut c);
+            // The protected bits of speech.
+            seen[ones(&c[..378])] += 1;
+        }
+        assert!(seen.iter().all(|&times| times > 100), "{:?}", seen);
+    }
+
+    #[test]
+    fn the_light_cable_leaves_most_blocks() {
+        let mut bursts = zeros(2000);
+        light(&mut Random::new(76), &mut bursts);
+        let untouched = (0..2000)
+            .filter(|&n| ones(&diagonal::bits(&bursts, n)) == 0)
+            .filter(|&n| ones(&diagonal::flags(&bursts, n)) == 0)
+            .count();
+        assert!(untouched > 1500 && untouched < 1900, "{}", untouched);
+    }
+}

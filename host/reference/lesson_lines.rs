@@ -1,0 +1,200 @@
+//! Lessons as kit lines: blocks are sent, their bursts go through the cable and are taken in
+//! order, and calls that are refused come in between.
+
+use crate::bench::Bench;
+use crate::random::Random;
+use crate::refused_calls;
+use crate::sending_stream::MOST_BLOCKS;
+
+/// So many lines of lessons, each with fresh streams; the kit's are so for the first.
+pub fn lessons(random: &mut Random, count: usize) -> Vec<Vec<u8>> {
+    let mut lines = lesson(random);
+    while lines.len() < count {
+        lines.push(b"fresh".to_vec());
+        lines.extend(lesson(random));
+    }
+    lines.truncate(count);
+    lines
+}
+
+/// One stream of so many blocks, at most 16,383, ended and taken to its last burst and beyond.
+pub fn stream(random: &mut Random, blocks: usize) -> Vec<Vec<u8>> {
+    let mut bench = Bench::new(random, blocks.min(MOST_BLOCKS));
+    // The end is refused before the first block.
+    let mut lines = vec![b"fresh".to_vec(), b"end".to_vec()];
+    lines.extend(carried(random, &mut bench, blocks > 0));
+    lines.extend(beyond(random, &mut bench, 12));
+    lines
+}
+
+/// One lesson: none, few or more blocks, mostly ended, and some bursts that no one sent.
+fn lesson(random: &mut Random) -> Vec<Vec<u8>> {
+    let blocks = match random.below(12) {
+        0 => 0,
+        1..=3 => 1,
+        4..=8 => 2 + random.below(5),
+        9 | 10 => 6 + random.below(10),
+        _ => 20 + random.below(20),
+    };
+    let mut bench = Bench::new(random, blocks);
+    let ends = blocks > 0 && !random.one_in(8);
+    let mut lines = carried(random, &mut bench, ends);
+    let unsent = random.below(10);
+    lines.extend(beyond(random, &mut bench, unsent));
+    lines
+}
+
+/// The lines that send a stream's blocks and take its bursts, with others in between.
+fn carried(random: &mut Random, bench: &mut Bench, ends: bool) -> Vec<Vec<u8>> {
+    // How often the receiver comes first where both could go on.
+    let takes_of_ten = random.pick(&[1, 8, 10]);
+    let mut lines = vec![refused_calls::refused_by_sender(random, bench)];
+    loop {
+        while random.one_in(4) {
+            lines.push(refused_calls::line(random, bench));
+        }
+        match next(random, bench, ends, takes_of_ten) {
+            Some(line) => lines.push(line),
+            None => return lines,
+        }
+    }
+}
+
+/// The next step of the receiver or of the sender; nothing if both are done.
+fn next(
+    random: &mut Random,
+    bench: &mut Bench,
+    ends: bool,
+    takes_of_ten: usize,
+) -> Option<Vec<u8>> {
+    let done = bench.all_sent() && (bench.ended || !ends);
+    if bench.has_burst() && (done || random.below(10) < takes_of_ten) {
+        Some(bench.take_next(random))
+    } else if !bench.all_sent() {
+        Some(bench.send_next())
+    } else if !done {
+        Some(bench.end())
+    } else {
+        None
+    }
+}
+
+/// Bursts that no one sent, taken after the others, with refused calls in between.
+fn beyond(random: &mut Random, bench: &mut Bench, number: usize) -> Vec<Vec<u8>> {
+    let mut lines = Vec::new();
+    for _ in 0..number {
+        lines.push(refused_calls::line(random, bench));
+        lines.push(refused_calls::refused_by_sender(random, bench));
+        lines.push(bench.take_unsent(random));
+    }
+    lines.push(refused_calls::line(random, bench));
+    lines
+}
+
+#[cfg(test)]
+mod tests {
+    use super::*;
+    use crate::kit::answers;
+
+    /// The answer's word with the number of a refusal; "sent" for a run of bits of a stream.
+    fn sort(answer: &str) -> String {
+        let words: Vec<&str> = answer.split(' ').collect();
+        match words.as_slice() {
+            ["refused", number, ..] => format!("refused {}", number),
+            [bits] if bits.len() == 464 => "sent".to_string(),
+            [word, ..] => word.to_string(),
+            [] => String::new(),
+        }
+    }
+
+    /// How often an answer of the sort comes to lines with the word.
+    fn times(lines: &[Vec<u8>], answers: &[String], word: &str, expected: &str) -> usize {
+        let with_word =
+            |line: &[u8]| line.split(|&byte| byte == b' ').next() == Some(word.as_bytes());
+        (0..lines.len())
+            .filter(|&k| with_word(&lines[k]) && sort(&answers[k]) == expected)
+            .count()
+    }
+
+    /// Every answer that a stream short of full can give comes so many times.
+    fn each_comes(lines: &[Vec<u8>], least: usize) {
+        let answers = answers(lines);
+        for (word, expected) in [
+            ("send", "sent"),
+            ("send", "refused 1"),
+            ("send", "refused 2"),
+            ("send", "refused 7"),
+            ("end", "refused 7"),
+            ("take", "waiting"),
+            ("take", "speech"),
+            ("take", "facch"),
+            ("take", "refused 1"),
+            ("take", "refused 2"),
+            ("take", "refused 4"),
+            ("take", "refused 8"),
+            ("take", "refused 9"),
+        ] {
+            let times = times(lines, &answers, word, expected);
+            assert!(times >= least, "{} {}: {}", word, expected, times);
+        }
+    }
+
+    #[test]
+    fn every_answer_comes_in_lessons() {
+        let lines = lessons(&mut Random::new(85), 3000);
+        each_comes(&lines, 10);
+        let answers = answers(&lines);
+        assert!(times(&lines, &answers, "end", "refused 6") >= 5);
+        assert!(times(&lines, &answers, "end", "sent") >= 10);
+        assert!(times(&lines, &answers, "fresh", "fresh") >= 10);
+    }
+
+    #[test]
+    fn every_answer_comes_in_a_stream() {
+        let lines = stream(&mut Random::new(86), 150);
+        each_comes(&lines, 3);
+        let answers = answers(&lines);
+        // Not one burst of the stream is lost, and twelve come after its end.
+        let taken: usize = ["waiting", "speech", "facch", "refused 8", "refused 9"]
+            .iter()
+            .map(|expected| times(&lines, &answers, "take", expected))
+            .sum();
+        assert_eq!(taken, 4 * 150 + 4 + 12);
+        assert_eq!(times(&lines, &answers, "send", "sent"), 150);
+        assert_eq!(times(&lines, &answers, "end", "sent"), 1);
+        assert_eq!(times(&lines, &answers, "fresh", "fresh"), 1);
+    }
+
+    #[test]
+    fn refused_calls_leave_the_streams() {
+        let lines = lessons(&mut Random::new(87), 1500);
+        let with = answers(&lines);
+        // Blocks found bad have their burst taken; the others with a no leave all as before.
+        let done = |answer: &str| match sort(answer).as_str() {
+            "?" => false,
+            "refused 8" | "refused 9" => true,
+            sort => !sort.starts_with("refused"),
+        };
+        let kept: Vec<usize> = (0..lines.len()).filter(|&k| done(&with[k])).collect();
+        let lines: Vec<Vec<u8>> = kept.iter().map(|&k| lines[k].clone()).collect();
+        let expected: Vec<String> = kept.iter().map(|&k| with[k].clone()).collect();
+        assert!(lines.len() > 800);
+        assert_eq!(answers(&lines), expected);
+    }
+
+    #[test]
+    fn the_number_of_lines_is_the_one_asked_for() {
+        for count in [0, 1, 10, 333] {
+            assert_eq!(lessons(&mut Random::new(88), count).len(), count);
+        }
+    }
+
+    #[test]
+    fn a_stream_may_have_no_block() {
+        let lines = stream(&mut Random::new(89), 0);
+        let answers = answers(&lines);
+        assert_eq!(times(&lines, &answers, "end", "sent"), 0);
+        // Twelve bursts that no one sent bring two answers.
+        assert_eq!(times(&lines, &answers, "take", "waiting"), 10);
+    }
+}

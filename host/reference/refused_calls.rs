@@ -1,0 +1,348 @@
+//! Lines that leave both streams as they are: calls that are refused, lines that are not
+//! understood, and the verbs that call no stream.
+
+use crate::bench::{self, Bench};
+use crate::diagonal::BURST;
+use crate::lines;
+use crate::random::Random;
+use crate::received_lines;
+use crate::view_lines;
+
+/// One random line that leaves the bench's streams as they are.
+pub fn line(random: &mut Random, bench: &Bench) -> Vec<u8> {
+    match random.below(20) {
+        0..=5 => refused_by_sender(random, bench),
+        6..=13 => refused_by_receiver(random, bench),
+        14..=17 => not_understood(random, bench),
+        _ => no_stream(random),
+    }
+}
+
+/// A send or an end that is refused.
+pub fn refused_by_sender(random: &mut Random, bench: &Bench) -> Vec<u8> {
+    match random.below(6) {
+        // Refusal 7, or refusal 6.
+        0 | 1 if bench.ended || bench.sent == 0 => b"end".to_vec(),
+        // Refusal 7.
+        2 | 3 if bench.ended => bench::send(&bench::block(random, 2)),
+        0 | 2 | 4 => bench::send(&spoiled_block(random)),
+        _ => bench::send(&block_of_wrong_length(random)),
+    }
+}
+
+/// Refusal 2: a block with wrong characters.
+fn spoiled_block(random: &mut Random) -> Vec<u8> {
+    let mut d = bench::block(random, 2);
+    lines::spoil(random, &mut d);
+    d
+}
+
+/// Refusal 1: a block of another length, now and then with wrong characters.
+fn block_of_wrong_length(random: &mut Random) -> Vec<u8> {
+    let right = random.pick(&[184, 260]);
+    let length = match another_length(random, right) {
+        // The longest line has room for 995.
+        184 | 260 => 995,
+        length => length,
+    };
+    some_spoiled(random, length)
+}
+
+/// A length other than the right one.
+fn another_length(random: &mut Random, right: usize) -> usize {
+    let length = match random.below(8) {
+        0 => right - 1,
+        1 => right + 1,
+        2 => 0,
+        3 => random.pick(&[57, 78, 114, 116, 184, 260, 444, 456, 464]),
+        4 => 2 * right,
+        // The right length to one who counts in a single byte.
+        5 => random.pick(&[right % 256, right + 256, right + 512]),
+        _ => random.below(990),
+    };
+    if length == right {
+        right + 1
+    } else {
+        length
+    }
+}
+
+/// Characters of bits, now and then with wrong ones among them.
+fn some_spoiled(random: &mut Random, length: usize) -> Vec<u8> {
+    let mut characters = lines::good_bits(random, length);
+    if random.one_in(4) {
+        lines::spoil(random, &mut characters);
+    }
+    characters
+}
+
+/// A take that is refused.
+fn refused_by_receiver(random: &mut Random, bench: &Bench) -> Vec<u8> {
+    let right = bench.next_number();
+    let wrong = another_number(random, right);
+    let any = random.pick(&[right, right, wrong]);
+    let (number, e) = match random.below(4) {
+        0 => (any, burst_of_wrong_length(random)),
+        1 => (any, spoiled_burst(random, bench)),
+        _ => (wrong, bench.some_burst(random)),
+    };
+    take(random, number, &e)
+}
+
+/// The line that takes characters under a number, now and then with leading zeros.
+fn take(random: &mut Random, number: usize, e: &[u8]) -> Vec<u8> {
+    bench::take(&lines::number_of(random, number), e)
+}
+
+/// Refusal 4: one too high, one too low, repeated, far off, or the same in some of its bits.
+fn another_number(random: &mut Random, right: usize) -> usize {
+    let number = match random.below(10) {
+        0 | 1 => right + 1,
+        2 | 3 => right + 65_535,
+        // The number of a block, or of the same burst in another block.
+        4 => random.pick(&[right / 4, 4 * right, right + 4, right + 8]),
+        5 => random.pick(&[0, 65_535]),
+        // The next one to one who counts in a single byte, or in 14 or 15 bits.
+        6 => right + random.pick(&[256, 512, 16_384, 32_768, 65_280]),
+        7 => right ^ (1 << random.below(16)),
+        _ => random.below(65_536),
+    };
+    if number % 65_536 == right {
+        (right + 1) % 65_536
+    } else {
+        number % 65_536
+    }
+}
+
+/// Refusal 1: a burst of another length, now and then with wrong characters.
+fn burst_of_wrong_length(random: &mut Random) -> Vec<u8> {
+    let length = another_length(random, BURST);
+    some_spoiled(random, length)
+}
+
+/// Refusal 2: a burst with wrong characters, now and then at a flag alone.
+fn spoiled_burst(random: &mut Random, bench: &Bench) -> Vec<u8> {
+    let mut e = bench.some_burst(random);
+    if random.one_in(4) {
+        e[57 + random.below(2)] = lines::wrong_character(random);
+    } else {
+        lines::spoil(random, &mut e);
+    }
+    e
+}
+
+/// A line that is not understood, though a call like it would be done.
+fn not_understood(random: &mut Random, bench: &Bench) -> Vec<u8> {
+    match random.below(6) {
+        0 => random.pick(&WRONG_WORDS).to_vec(),
+        1 => {
+            let word = random.pick(&["end", "fresh"]);
+            lines::changed_word(random, word)
+        }
+        2 => bench::take(&lines::no_number(random), &bench.some_burst(random)),
+        3 => too_long(random, bench),
+        _ => wrong_fields(random, bench),
+    }
+}
+
+/// Words that have too few or too many arguments, or spaces where none belong.
+const WRONG_WORDS: [&[u8]; 20] = [
+    b"send",
+    b"send  ",
+    b"end ",
+    b"end  ",
+    b" end",
+    b"end 0",
+    b"fresh ",
+    b" fresh",
+    b"fresh 0",
+    b"fresh\r",
+    b"fresh\0",
+    b"end\r",
+    b"take",
+    b"take ",
+    b"take 0",
+    b"take  ",
+    b"stream",
+    b"taken",
+    b"fresh end",
+    b"end fresh",
+];
+
+/// A call that would be done: the next take, or a send.
+fn call(random: &mut Random, bench: &Bench) -> Vec<u8> {
+    if random.one_in(2) {
+        bench::send(&bench::block(random, 2))
+    } else {
+        let e = bench.some_burst(random);
+        take(random, bench.next_number(), &e)
+    }
+}
+
+/// A call with another word, an argument more or less, or a space too many.
+fn wrong_fields(random: &mut Random, bench: &Bench) -> Vec<u8> {
+    let line = call(random, bench);
+    let (word, rest) = line.split_at(4);
+    match random.below(7) {
+        0 => [&line[..], b" "].concat(),
+        1 => [b" ", &line[..]].concat(),
+        2 => lines::double_space(random, &line),
+        3 => [&line[..], b" 0"].concat(),
+        4 => [b"take ", &bench.some_burst(random)[..]].concat(),
+        5 => [word, b"\t", &rest[1..]].concat(),
+        _ => {
+            let word = random.pick(&["send", "take"]);
+            [&lines::changed_word(random, word)[..], rest].concat()
+        }
+    }
+}
+
+/// A call drawn out to over 1,000 bytes.
+fn too_long(random: &mut Random, bench: &Bench) -> Vec<u8> {
+    let mut line = call(random, bench);
+    let length = random.pick(&[1001, 1001, 1002, 1256, 4000]);
+    line.resize(length, b'0');
+    line
+}
+
+/// A line for a verb that calls no stream.
+fn no_stream(random: &mut Random) -> Vec<u8> {
+    match random.below(3) {
+        0 => lines::line(random),
+        1 => received_lines::line(random),
+        _ => view_lines::line(random),
+    }
+}
+
+#[cfg(test)]
+mod tests {
+    use super::*;
+    use crate::kit::Kit;
+
+    /// What a kit answers to so many lines of one sort, made for a bench that has come as far.
+    fn answers(
+        kit: &mut Kit,
+        bench: &Bench,
+        made: impl Fn(&mut Random, &Bench) -> Vec<u8>,
+    ) -> Vec<String> {
+        let mut random = Random::new(80);
+        (0..1000)
+            .map(|_| kit.answer(&made(&mut random, bench)))
+            .collect()
+    }
+
+    /// Every answer is one of those that are expected, and each of them comes.
+    fn are(answers: &[String], expected: &[&str]) {
+        for answer in answers {
+            assert!(expected.contains(&answer.as_str()), "{}", answer);
+        }
+        for answer in expected {
+            assert!(answers.iter().any(|other| other == answer), "{}", answer);
+        }
+    }
+
+    /// A kit and a bench that have sent two blocks and taken five bursts; the bench may have ended.
+    fn under_way(ended: bool) -> (Kit, Bench) {
+        let mut random = Random::new(81);
+        let mut kit = Kit::fresh();
+        let mut bench = Bench::new(&mut random, 2);
+        let mut lines = vec![bench.send_next(), bench.send_next()];
+        if ended {
+            lines.push(bench.end());
+        }
+        lines.extend((0..5).map(|_| bench.take_next(&mut random)));
+        for line in lines {
+            assert!(!kit.answer(&line).starts_with("refused"));
+        }
+        (kit, bench)
+    }
+
+    /// A kit and a bench that have not begun.
+    fn not_begun() -> (Kit, Bench) {
+        (Kit::fresh(), Bench::new(&mut Random::new(82), 2))
+    }
+
+    #[test]
+    fn the_sender_refuses_as_meant() {
+        let (mut kit, bench) = not_begun();
+        let answers_then = answers(&mut kit, &bench, refused_by_sender);
+        are(&answers_then, &["refused 1", "refused 2", "refused 6"]);
+        let (mut kit, bench) = under_way(false);
+        let answers_then = answers(&mut kit, &bench, refused_by_sender);
+        are(&answers_then, &["refused 1", "refused 2"]);
+        let (mut kit, bench) = under_way(true);
+        let answers_then = answers(&mut kit, &bench, refused_by_sender);
+        are(&answers_then, &["refused 1", "refused 2", "refused 7"]);
+    }
+
+    #[test]
+    fn the_receiver_refuses_as_meant() {
+        for (mut kit, bench) in [not_begun(), under_way(false), under_way(true)] {
+            let answers = answers(&mut kit, &bench, refused_by_receiver);
+            are(&answers, &["refused 1", "refused 2", "refused 4"]);
+        }
+    }
+
+    #[test]
+    fn each_wrong_sort_is_wrong_as_meant() {
+        for (mut kit, bench) in [not_begun(), under_way(false), under_way(true)] {
+            are(&answers(&mut kit, &bench, not_understood), &["?"]);
+            let made = |random: &mut Random, _: &Bench| bench::send(&spoiled_block(random));
+            are(&answers(&mut kit, &bench, made), &["refused 2"]);
+            let made = |random: &mut Random, _: &Bench| bench::send(&block_of_wrong_length(random));
+            are(&answers(&mut kit, &bench, made), &["refused 1"]);
+            let made = |random: &mut Random, bench: &Bench| {
+                let e = burst_of_wrong_length(random);
+                take(random, bench.next_number(), &e)
+            };
+            are(&answers(&mut kit, &bench, made), &["refused 1"]);
+            let made = |random: &mut Random, bench: &Bench| {
+                let e = spoiled_burst(random, bench);
+                take(random, bench.next_number(), &e)
+            };
+            are(&answers(&mut kit, &bench, made), &["refused 2"]);
+        }
+    }
+
+    #[test]
+    fn another_number_is_never_the_right_one() {
+        let mut random = Random::new(83);
+        for right in [0, 1, 5, 255, 256, 4000, 65_534, 65_535] {
+            let numbers: Vec<usize> = (0..500)
+                .map(|_| another_number(&mut random, right))
+                .collect();
+            assert!(numbers
+                .iter()
+                .all(|&number| number != right && number < 65_536));
+            for near in [right + 1, right + 65_535] {
+                assert!(numbers.contains(&(near % 65_536)));
+            }
+        }
+    }
+
+    #[test]
+    fn the_streams_stand_as_before() {
+        for (mut kit, bench) in [not_begun(), under_way(false), under_way(true)] {
+            answers(&mut kit, &bench, line);
+            // The next burst is still the next one; the sender is as far as it was.
+            let number = bench.next_number().to_string();
+            let next = bench::take(number.as_bytes(), &[b'0'; 116]);
+            assert_eq!(kit.answer(&next), "waiting");
+            let end = kit.answer(b"end");
+            match (bench.ended, bench.sent) {
+                (true, _) => assert_eq!(end, "refused 7"),
+                (false, 0) => assert_eq!(end, "refused 6"),
+                _ => assert_eq!(end.len(), 464),
+            }
+        }
+    }
+
+    #[test]
+    fn no_made_line_holds_a_newline() {
+        let (_, bench) = under_way(true);
+        let mut random = Random::new(84);
+        for _ in 0..5000 {
+            assert!(!line(&mut random, &bench).contains(&10));
+        }
+    }
+}
