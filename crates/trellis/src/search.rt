@@ -57,9 +57,9 @@ fn newest(s: usize) -> u8
 // The state before s, by its choice in the word.
 fn earlier(s: usize, word: u16) -> usize
     requires { ⌜ s < 16 ⌝ }
-    ensures { λ r. ⌜ (r ≡ from 8 s (word / 2 ^ (15 - s) % 2)) × (r < 16) ⌝ }
+    ensures { λ r. ⌜ (r ≡ from 8 s (word / 2 ^ ((16 - s) % 16) % 2)) × (r < 16) ⌝ }
 {
-    2 * (s % 8) + widened((word >> (15 - s)) % 2)
+    2 * (s % 8) + widened((word >> ((16 - s) % 16)) % 2)
 }
 
 fn widened(o: u16) -> usize

@@ -7,7 +7,7 @@ ghost use Rattle.bits.specs.Bits.{pick, tab, value};
 ghost use lib.Dec.{ltb};
 ghost use Rattle.trellis.specs.Nearest.{differ};
 ghost use Rattle.trellis.specs.Pairs.{pairOf};
-ghost use Rattle.trellis.specs.laws.Steps.{costInto, stepAt, chosenAt};
+ghost use Rattle.trellis.specs.laws.Steps.{costInto, stepAt, chosenAt, turned};
 
 // Does received r disagree with coded bit x?
 fn apart(x: u8, r: u8) -> u16
@@ -109,14 +109,14 @@ pub fn step(row: [u16; 16], x: u8, y: u8) -> [u16; 16]
     ]
 }
 
-// The sixteen choices of one received pair, put into one word one after another, that of state 0 in the highest bit.
+// The sixteen choices of one received pair, put into one word one after another: that of state 1 first, in the highest bit, and that of
+// state 0 last. LLVM finds this order as it stands in its vectors.
 pub fn choices(row: [u16; 16], x: u8, y: u8) -> u16
     requires { ⌜ (x ≤ 1) × (y ≤ 1) ⌝ }
-    ensures { λ r. ⌜ r ≡ value (tab 16 (chosenAt row x y)) ⌝ }
+    ensures { λ r. ⌜ r ≡ value (tab 16 (turned (chosenAt row x y))) ⌝ }
 {
     let w = costs(x, y);
-    let n0 = cheaper(row[0], w[0], row[1], w[8]);
-    let n1 = cheaper(row[2], w[1], row[3], w[9]) | (n0 << 1);
+    let n1 = cheaper(row[2], w[1], row[3], w[9]);
     let n2 = cheaper(row[4], w[2], row[5], w[10]) | (n1 << 1);
     let n3 = cheaper(row[6], w[3], row[7], w[11]) | (n2 << 1);
     let n4 = cheaper(row[8], w[4], row[9], w[12]) | (n3 << 1);
@@ -130,5 +130,6 @@ pub fn choices(row: [u16; 16], x: u8, y: u8) -> u16
     let n12 = cheaper(row[8], w[12], row[9], w[4]) | (n11 << 1);
     let n13 = cheaper(row[10], w[13], row[11], w[5]) | (n12 << 1);
     let n14 = cheaper(row[12], w[14], row[13], w[6]) | (n13 << 1);
-    cheaper(row[14], w[15], row[15], w[7]) | (n14 << 1)
+    let n15 = cheaper(row[14], w[15], row[15], w[7]) | (n14 << 1);
+    cheaper(row[0], w[0], row[1], w[8]) | (n15 << 1)
 }

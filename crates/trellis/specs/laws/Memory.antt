@@ -15,7 +15,7 @@ use Rattle.bits.specs.laws.Value.{at-digit}
 use Rattle.register.specs.Register.{bit, from, way, best, choice, walk}
 use Rattle.register.specs.laws.Steps.{from-lt}
 use Rattle.trellis.specs.Nearest.{pairCost, rowAt, row, nearest, nearestCount}
-use Rattle.trellis.specs.laws.Steps.{wayOf, stepAt, chosenAt}
+use Rattle.trellis.specs.laws.Steps.{wayOf, stepAt, chosenAt, turned}
 
 -- ---- one pair more
 module _ (r : List ℕ) (t : ℕ) where
@@ -42,10 +42,17 @@ unfolding row rowAt best tab tabFrom
 row-first r = refl
 
 -- ---- a choice is found again in its bit
-pub word-bit : (f : ℕ → ℕ) → ((i : ℕ) → f i ≤ 1) → (s : ℕ) → s < 16 → value (tab 16 f) / 2 ^ (15 - s) % 2 ≡ f s
+word-bit : (f : ℕ → ℕ) → ((i : ℕ) → f i ≤ 1) → (s : ℕ) → s < 16 → value (tab 16 f) / 2 ^ (15 - s) % 2 ≡ f s
 word-bit f h s l =
     let n = length-tab 16 f in
     sym (at-digit (tab 16 f) (bits-tab 16 f h) s (rw n l) ∙ ap (λ (k : ℕ). value (tab 16 f) / 2 ^ (k - 1 - s) % 2) n) ∙ at-tab 16 f s l
+
+pub turned-bit : (f : ℕ → ℕ) → ((i : ℕ) → f i ≤ 1) → (s : ℕ) → s < 16 → value (tab 16 (turned f)) / 2 ^ ((16 - s) % 16) % 2 ≡ f s
+turned-bit f h s l =
+    let i : ℕ = (s + 15) % 16 in
+    let e : (16 - s) % 16 ≡ 15 - i = omega (arith, l) in
+    let back : (i + 1) % 16 ≡ s = omega (arith, l) in
+    ap (λ (k : ℕ). value (tab 16 (turned f)) / 2 ^ k % 2) e ∙ word-bit (turned f) (λ j. h ((j + 1) % 16)) i (omega arith) ∙ ap f back
 
 pub choice-le : (r : List ℕ) (t s : ℕ) → choice 8 (pairCost r) 65535 t s ≤ 1
 unfolding choice
@@ -84,19 +91,19 @@ retrace-more g k s u b h e =
 
 -- ---- what the memory holds, and the choices that the walk reads out of it
 abbrev pub Remembers : List ℕ → ℕ → List ℕ → Type 0
-Remembers r n m = (t : ℕ) → t < n → getD m t 0 ≡ value (tab 16 (choice 8 (pairCost r) 65535 t))
+Remembers r n m = (t : ℕ) → t < n → getD m t 0 ≡ value (tab 16 (turned (choice 8 (pairCost r) 65535 t)))
 
 unfoldable pub bitsOf : List ℕ → ℕ → ℕ → ℕ
-bitsOf m t s = getD m t 0 / 2 ^ (15 - s) % 2
+bitsOf m t s = getD m t 0 / 2 ^ ((16 - s) % 16) % 2
 
-pub walked : (m u : List ℕ) (t s b p : ℕ) (after : List ℕ) → 0 < t → t ≤ length u → b ≡ bit 8 s → p ≡ from 8 s (getD m (t - 1) 0 / 2 ^ (15 - s) % 2)
+pub walked : (m u : List ℕ) (t s b p : ℕ) (after : List ℕ) → 0 < t → t ≤ length u → b ≡ bit 8 s → p ≡ from 8 s (getD m (t - 1) 0 / 2 ^ ((16 - s) % 16) % 2)
     → after ≡ reverse (retrace (bitsOf m) (t - 1) p) ++ drop (t - 1) (set u (t - 1) b) → after ≡ reverse (retrace (bitsOf m) t s) ++ drop t u
 unfolding bitsOf
 walked m u zero s b p after h l eb ep ea = let z : ⊥ = omega arith in absurd z
 walked m u (suc k) s b p after h l eb ep ea =
     let e : suc k - 1 ≡ k = omega arith in
     ea
-    ∙ ap₂ (λ (i q : ℕ). reverse (retrace (bitsOf m) i q) ++ drop i (set u i b)) e (ep ∙ ap (λ (i : ℕ). from 8 s (getD m i 0 / 2 ^ (15 - s) % 2)) e)
+    ∙ ap₂ (λ (i q : ℕ). reverse (retrace (bitsOf m) i q) ++ drop i (set u i b)) e (ep ∙ ap (λ (i : ℕ). from 8 s (getD m i 0 / 2 ^ ((16 - s) % 16) % 2)) e)
     ∙ retrace-more (bitsOf m) k s u b l eb
 
 pub stayed : (m u : List ℕ) (t s : ℕ) → t ≤ 0 → u ≡ reverse (retrace (bitsOf m) t s) ++ drop t u
@@ -108,15 +115,15 @@ stayed m u (suc t) s h = let z : ⊥ = omega arith in absurd z
 pub remembers-none : (r m : List ℕ) → Remembers r 0 m
 remembers-none r m t h = let z : ⊥ = omega arith in absurd z
 
-pub remembers-more : (r m f : List ℕ) (k w : ℕ) → k < length m → f ≡ row r k → w ≡ value (tab 16 (chosenAt f (getD r (2 * k) 0) (getD r (2 * k + 1) 0)))
+pub remembers-more : (r m f : List ℕ) (k w : ℕ) → k < length m → f ≡ row r k → w ≡ value (tab 16 (turned (chosenAt f (getD r (2 * k) 0) (getD r (2 * k + 1) 0))))
     → Remembers r k m → Remembers r (k + 1) (set m k w)
 remembers-more r m f k w h ef ew old =
-    below-more (λ (t : ℕ). getD (set m k w) t 0 ≡ value (tab 16 (choice 8 (pairCost r) 65535 t))) k
+    below-more (λ (t : ℕ). getD (set m k w) t 0 ≡ value (tab 16 (turned (choice 8 (pairCost r) 65535 t)))) k
     (λ t l. getD-set-other m k t w 0 (λ (q : t ≡ k). omega (arith, q, l)) ∙ old t l)
     (getD-set-same m k w 0 h
     ∙ ew
-    ∙ ap (λ (g : List ℕ). value (tab 16 (chosenAt g (getD r (2 * k) 0) (getD r (2 * k + 1) 0)))) ef
-    ∙ ap value (tab-same 16 (chosenAt (row r k) (getD r (2 * k) 0) (getD r (2 * k + 1) 0)) (choice 8 (pairCost r) 65535 k) (chosen-same r k)))
+    ∙ ap (λ (g : List ℕ). value (tab 16 (turned (chosenAt g (getD r (2 * k) 0) (getD r (2 * k + 1) 0))))) ef
+    ∙ ap value (tab-same 16 (turned (chosenAt (row r k) (getD r (2 * k) 0) (getD r (2 * k + 1) 0))) (turned (choice 8 (pairCost r) 65535 k)) (λ i l. chosen-same r k ((i + 1) % 16) (omega arith))))
 
 pub row-more : (r f g : List ℕ) (k : ℕ) → f ≡ row r k → g ≡ tab 16 (stepAt f (getD r (2 * k) 0) (getD r (2 * k + 1) 0)) → g ≡ row r (k + 1)
 row-more r f g k ef eg =
@@ -135,7 +142,7 @@ found r m rest w after n mem ew ea =
     let l : length (reverse p) ≡ n - 0 = length-reverse p ∙ length-retrace (bitsOf m) n 0 ∙ omega arith in
     let e : p ≡ walk 8 (pairCost r) 65535 n 0 =
     retraced r (bitsOf m) n
-    (λ t s lt ls. ap (λ (x : ℕ). x / 2 ^ (15 - s) % 2) (mem t lt) ∙ word-bit (choice 8 (pairCost r) 65535 t) (choice-le r t) s ls)
+    (λ t s lt ls. ap (λ (x : ℕ). x / 2 ^ ((16 - s) % 16) % 2) (mem t lt) ∙ turned-bit (choice 8 (pairCost r) 65535 t) (choice-le r t) s ls)
     0 (omega arith) in
     ea ∙ ap (take (n - 0)) ew ∙ take-at (reverse p) rest (n - 0) l ∙ ap reverse e
 

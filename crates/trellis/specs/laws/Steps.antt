@@ -31,6 +31,10 @@ wayOf a x y s o = min (a + (differ (pairOf (from 8 s o) (bit 8 s) / 2) x + diffe
 unfoldable pub stepAt : List ℕ → ℕ → ℕ → ℕ → ℕ
 stepAt f x y s = min (wayOf (getD f (from 8 s 0) 0) x y s 0) (wayOf (getD f (from 8 s 1) 0) x y s 1)
 
+-- the order of the word of choices: state 1 first, state 0 last
+abbrev pub turned : (ℕ → ℕ) → ℕ → ℕ
+turned f i = f ((i + 1) % 16)
+
 unfoldable pub chosenAt : List ℕ → ℕ → ℕ → ℕ → ℕ
 chosenAt f x y s = pick (ltb (wayOf (getD f (from 8 s 1) 0) x y s 1) (wayOf (getD f (from 8 s 0) 0) x y s 0)) 1 0
 
@@ -125,29 +129,33 @@ module _ (f : List ℕ) (x y : ℕ) (w : List ℕ) (ew : w ≡ tab 16 (costInto 
   row-is r0 r1 r2 r3 r4 r5 r6 r7 r8 r9 r10 r11 r12 r13 r14 r15 e0 e1 e2 e3 e4 e5 e6 e7 e8 e9 e10 e11 e12 e13 e14 e15 =
       rw (e0, e1, e2, e3, e4, e5, e6, e7, e8, e9, e10, e11, e12, e13, e14, e15, ew)
 
+  chosen-bit : (s : ℕ) → chosenAt f x y s ≤ 1
+  unfolding chosenAt
+  chosen-bit s = either (ltb (wayOf (getD f (from 8 s 1) 0) x y s 1) (wayOf (getD f (from 8 s 0) 0) x y s 0))
+
   -- what the sixteen calls of `cheaper` make, put together
   pub word-is : (k0 k1 k2 k3 k4 k5 k6 k7 k8 k9 k10 k11 k12 k13 k14 k15 : ℕ)
-      → k0 ≡ pick (ltb (min (getD f 1 0 + getD w 8 0) 65535) (min (getD f 0 0 + getD w 0 0) 65535)) 1 0
-      → k1 ≡ pick (ltb (min (getD f 3 0 + getD w 9 0) 65535) (min (getD f 2 0 + getD w 1 0) 65535)) 1 0
-      → k2 ≡ pick (ltb (min (getD f 5 0 + getD w 10 0) 65535) (min (getD f 4 0 + getD w 2 0) 65535)) 1 0
-      → k3 ≡ pick (ltb (min (getD f 7 0 + getD w 11 0) 65535) (min (getD f 6 0 + getD w 3 0) 65535)) 1 0
-      → k4 ≡ pick (ltb (min (getD f 9 0 + getD w 12 0) 65535) (min (getD f 8 0 + getD w 4 0) 65535)) 1 0
-      → k5 ≡ pick (ltb (min (getD f 11 0 + getD w 13 0) 65535) (min (getD f 10 0 + getD w 5 0) 65535)) 1 0
-      → k6 ≡ pick (ltb (min (getD f 13 0 + getD w 14 0) 65535) (min (getD f 12 0 + getD w 6 0) 65535)) 1 0
-      → k7 ≡ pick (ltb (min (getD f 15 0 + getD w 15 0) 65535) (min (getD f 14 0 + getD w 7 0) 65535)) 1 0
-      → k8 ≡ pick (ltb (min (getD f 1 0 + getD w 0 0) 65535) (min (getD f 0 0 + getD w 8 0) 65535)) 1 0
-      → k9 ≡ pick (ltb (min (getD f 3 0 + getD w 1 0) 65535) (min (getD f 2 0 + getD w 9 0) 65535)) 1 0
-      → k10 ≡ pick (ltb (min (getD f 5 0 + getD w 2 0) 65535) (min (getD f 4 0 + getD w 10 0) 65535)) 1 0
-      → k11 ≡ pick (ltb (min (getD f 7 0 + getD w 3 0) 65535) (min (getD f 6 0 + getD w 11 0) 65535)) 1 0
-      → k12 ≡ pick (ltb (min (getD f 9 0 + getD w 4 0) 65535) (min (getD f 8 0 + getD w 12 0) 65535)) 1 0
-      → k13 ≡ pick (ltb (min (getD f 11 0 + getD w 5 0) 65535) (min (getD f 10 0 + getD w 13 0) 65535)) 1 0
-      → k14 ≡ pick (ltb (min (getD f 13 0 + getD w 6 0) 65535) (min (getD f 12 0 + getD w 14 0) 65535)) 1 0
-      → k15 ≡ pick (ltb (min (getD f 15 0 + getD w 7 0) 65535) (min (getD f 14 0 + getD w 15 0) 65535)) 1 0
-      → bitOr k15 ((bitOr k14 ((bitOr k13 ((bitOr k12 ((bitOr k11 ((bitOr k10 ((bitOr k9 ((bitOr k8 ((bitOr k7 ((bitOr k6 ((bitOr k5 ((bitOr k4 ((bitOr k3 ((bitOr k2 ((bitOr k1 (k0 * 2 % 65536)) * 2 % 65536)) * 2 % 65536)) * 2 % 65536)) * 2 % 65536)) * 2 % 65536)) * 2 % 65536)) * 2 % 65536)) * 2 % 65536)) * 2 % 65536)) * 2 % 65536)) * 2 % 65536)) * 2 % 65536)) * 2 % 65536)) * 2 % 65536) ≡ value (tab 16 (chosenAt f x y))
+      → k0 ≡ pick (ltb (min (getD f 3 0 + getD w 9 0) 65535) (min (getD f 2 0 + getD w 1 0) 65535)) 1 0
+      → k1 ≡ pick (ltb (min (getD f 5 0 + getD w 10 0) 65535) (min (getD f 4 0 + getD w 2 0) 65535)) 1 0
+      → k2 ≡ pick (ltb (min (getD f 7 0 + getD w 11 0) 65535) (min (getD f 6 0 + getD w 3 0) 65535)) 1 0
+      → k3 ≡ pick (ltb (min (getD f 9 0 + getD w 12 0) 65535) (min (getD f 8 0 + getD w 4 0) 65535)) 1 0
+      → k4 ≡ pick (ltb (min (getD f 11 0 + getD w 13 0) 65535) (min (getD f 10 0 + getD w 5 0) 65535)) 1 0
+      → k5 ≡ pick (ltb (min (getD f 13 0 + getD w 14 0) 65535) (min (getD f 12 0 + getD w 6 0) 65535)) 1 0
+      → k6 ≡ pick (ltb (min (getD f 15 0 + getD w 15 0) 65535) (min (getD f 14 0 + getD w 7 0) 65535)) 1 0
+      → k7 ≡ pick (ltb (min (getD f 1 0 + getD w 0 0) 65535) (min (getD f 0 0 + getD w 8 0) 65535)) 1 0
+      → k8 ≡ pick (ltb (min (getD f 3 0 + getD w 1 0) 65535) (min (getD f 2 0 + getD w 9 0) 65535)) 1 0
+      → k9 ≡ pick (ltb (min (getD f 5 0 + getD w 2 0) 65535) (min (getD f 4 0 + getD w 10 0) 65535)) 1 0
+      → k10 ≡ pick (ltb (min (getD f 7 0 + getD w 3 0) 65535) (min (getD f 6 0 + getD w 11 0) 65535)) 1 0
+      → k11 ≡ pick (ltb (min (getD f 9 0 + getD w 4 0) 65535) (min (getD f 8 0 + getD w 12 0) 65535)) 1 0
+      → k12 ≡ pick (ltb (min (getD f 11 0 + getD w 5 0) 65535) (min (getD f 10 0 + getD w 13 0) 65535)) 1 0
+      → k13 ≡ pick (ltb (min (getD f 13 0 + getD w 6 0) 65535) (min (getD f 12 0 + getD w 14 0) 65535)) 1 0
+      → k14 ≡ pick (ltb (min (getD f 15 0 + getD w 7 0) 65535) (min (getD f 14 0 + getD w 15 0) 65535)) 1 0
+      → k15 ≡ pick (ltb (min (getD f 1 0 + getD w 8 0) 65535) (min (getD f 0 0 + getD w 0 0) 65535)) 1 0
+      → bitOr k15 ((bitOr k14 ((bitOr k13 ((bitOr k12 ((bitOr k11 ((bitOr k10 ((bitOr k9 ((bitOr k8 ((bitOr k7 ((bitOr k6 ((bitOr k5 ((bitOr k4 ((bitOr k3 ((bitOr k2 ((bitOr k1 (k0 * 2 % 65536)) * 2 % 65536)) * 2 % 65536)) * 2 % 65536)) * 2 % 65536)) * 2 % 65536)) * 2 % 65536)) * 2 % 65536)) * 2 % 65536)) * 2 % 65536)) * 2 % 65536)) * 2 % 65536)) * 2 % 65536)) * 2 % 65536)) * 2 % 65536) ≡ value (tab 16 (turned (chosenAt f x y)))
   unfolding tab tabFrom chosenAt wayOf costInto from bit pairOf value packed
   word-is k0 k1 k2 k3 k4 k5 k6 k7 k8 k9 k10 k11 k12 k13 k14 k15 e0 e1 e2 e3 e4 e5 e6 e7 e8 e9 e10 e11 e12 e13 e14 e15 =
       let ks : List ℕ = k1 ∷ k2 ∷ k3 ∷ k4 ∷ k5 ∷ k6 ∷ k7 ∷ k8 ∷ k9 ∷ k10 ∷ k11 ∷ k12 ∷ k13 ∷ k14 ∷ k15 ∷ [] in
-      let all : k0 ∷ ks ≡ tab 16 (chosenAt f x y) = rw (e0, e1, e2, e3, e4, e5, e6, e7, e8, e9, e10, e11, e12, e13, e14, e15, ew) in
-      let bits : Bits (k0 ∷ ks) = subst Bits (sym all) (bits-tab 16 (chosenAt f x y) (λ s. either (ltb (wayOf (getD f (from 8 s 1) 0) x y s 1) (wayOf (getD f (from 8 s 0) 0) x y s 0)))) in
+      let all : k0 ∷ ks ≡ tab 16 (turned (chosenAt f x y)) = rw (e0, e1, e2, e3, e4, e5, e6, e7, e8, e9, e10, e11, e12, e13, e14, e15, ew) in
+      let bits : Bits (k0 ∷ ks) = subst Bits (sym all) (bits-tab 16 (turned (chosenAt f x y)) (λ i. chosen-bit ((i + 1) % 16))) in
       let one : k0 ≡ value (k0 ∷ []) = omega arith in
       ap (packed ks) one ∙ packed-is ks (k0 ∷ []) (bits-cons k0 [] (bits 0) (λ i. omega arith)) (λ i. bits (suc i)) (lit≤ tt) ∙ ap value all

@@ -10,7 +10,7 @@ use Rattle.trellis.proofs.search.earlier.Tie as tie
 returns : tie.Need-returns
 returns c =
     let s = c .before .args in (
-      ap (λ (o : ℕ). 2 * (s .s % 8) + o) (c .widened .ensures) ∙ sym (behind (s .s) (c .before .pre) (s .word / 2 ^ (15 - s .s) % 2)),
+      ap (λ (o : ℕ). 2 * (s .s % 8) + o) (c .widened .ensures) ∙ sym (behind (s .s) (c .before .pre) (s .word / 2 ^ ((16 - s .s) % 16) % 2)),
       omega (arith, c .widened .ensures),
     )
 
