@@ -55,6 +55,12 @@ need_desk_tools() {
     fi
 }
 
+# What the bench counts with, and the library that it counts beside ours.
+need_bench_tools() {
+    need_desk_tools || return 1
+    if on_x86_64; then need_packages qemu-user libosmocore-dev; else need_packages libosmocore-dev:amd64; fi
+}
+
 # The desk program, in C over the proved library desk.
 build_desk() { # OUT
     need_desk_tools && rt staticlib desk </dev/null && build_c "$1" host/desk/desk.c target/staticlib/libdesk.a
@@ -62,14 +68,22 @@ build_desk() { # OUT
 
 # Builds a program in C.
 build_c() { # OUT SOURCE...
+    if on_x86_64; then build_c_shared "$@"; else build_c_shared "$@" -static; fi
+}
+
+# Builds a program in C on shared libraries.
+build_c_shared() { # OUT SOURCE...
     out=$1
     shift
-    if on_x86_64; then set -- gcc "$@"; else set -- x86_64-linux-gnu-gcc -static "$@"; fi
+    if on_x86_64; then set -- gcc "$@"; else set -- x86_64-linux-gnu-gcc "$@"; fi
     "$@" -O2 -std=c11 -Wall -Wextra -Werror -pedantic -o "$out"
 }
 
-# Builds the tests of a Rust source; only Debian's own rustc has what it cross-builds with.
-build_rust_tests() { # OUT SOURCE ARG...
+# Builds the tests of a Rust source.
+build_rust_tests() { build_rust "$@" --test; } # OUT SOURCE ARG...
+
+# Builds a program in Rust; only Debian's own rustc has what it cross-builds with.
+build_rust() { # OUT SOURCE ARG...
     out=$1
     shift
     if on_x86_64; then
@@ -78,10 +92,10 @@ build_rust_tests() { # OUT SOURCE ARG...
         set -- /usr/bin/rustc --target x86_64-unknown-linux-gnu -C linker=x86_64-linux-gnu-gcc \
             -C target-feature=+crt-static -C relocation-model=static "$@"
     fi
-    "$@" --test -O --edition 2021 -o "$out"
+    "$@" -O --edition 2021 -o "$out"
 }
 
-# Runs a program of build_c or build_rust_tests.
+# Runs a program of build_c, build_rust or build_rust_tests.
 run_host() { # PROGRAM ARG...
     if on_x86_64; then "$@"; else qemu-x86_64 "$@"; fi
 }

@@ -1,6 +1,6 @@
 /*
- * The entries of libosmocoding for host/bench/bench: NAME CALLS calls the named one so many times. What is decoded must be what was
- * encoded.
+ * The entries of libosmocoding that host/bench/bench counts: NAME CALLS calls one of them so many times. What is decoded must be
+ * what was encoded.
  */
 #include <stdbool.h>
 #include <stdint.h>
@@ -12,98 +12,129 @@
 #include <osmocom/core/bits.h>
 
 enum {
-    LONGEST = 33,    /* bytes of data at most, those of speech */
-    SIGNATURE = 0xd, /* how the first byte of speech begins */
-    IDENTITY = 7,    /* the base station of access */
-    NET_ORDER = 1,   /* speech as it stands in a packet, not by importance */
-    NO_EFR = 0
+    BURST = 116,
+    SPEECH_BYTES = 33,
+    SIGNATURE = 0xd, /* what speech begins with; the others do not mind it */
+    IDENTITY = 7,    /* of the base station, for access */
+    NET_ORDER = 1,   /* the order of speech in a packet */
+    FULL_RATE = 0    /* and not enhanced full rate */
 };
 
-static uint8_t data[LONGEST], decoded[LONGEST];
-static ubit_t sent[8 * 116];
-static sbit_t received[8 * 116];
-/* The counts that a decoding returns besides. */
-static int disagreements, protected_bits;
+static uint8_t data[SPEECH_BYTES];
+static uint8_t decoded[SPEECH_BYTES];
+static ubit_t sent[8 * BURST];
+static sbit_t received[8 * BURST];
 
-static void encode_speech(void) { gsm0503_tch_fr_encode(sent, data, LONGEST, NET_ORDER); }
+/* What a decoding counts besides. */
+static int disagreements;
+static int protected_bits;
 
-static void decode_speech(void) {
-    gsm0503_tch_fr_decode(decoded, received, NET_ORDER, NO_EFR, &disagreements, &protected_bits);
+static void encode_speech(void)
+{
+    gsm0503_tch_fr_encode(sent, data, SPEECH_BYTES, NET_ORDER);
 }
 
-static void encode_control(void) { gsm0503_xcch_encode(sent, data); }
+static void decode_speech(void)
+{
+    gsm0503_tch_fr_decode(decoded, received, NET_ORDER, FULL_RATE, &disagreements, &protected_bits);
+}
 
-static void decode_control(void) { gsm0503_xcch_decode(decoded, received, &disagreements, &protected_bits); }
+static void encode_control(void)
+{
+    gsm0503_xcch_encode(sent, data);
+}
 
-static void encode_access(void) { gsm0503_rach_ext_encode(sent, data[0], IDENTITY, false); }
+static void decode_control(void)
+{
+    gsm0503_xcch_decode(decoded, received, &disagreements, &protected_bits);
+}
 
-static void decode_access(void) {
+static void encode_access(void)
+{
+    gsm0503_rach_ext_encode(sent, data[0], IDENTITY, false);
+}
+
+static void decode_access(void)
+{
     gsm0503_rach_decode_ber(decoded, received, IDENTITY, &disagreements, &protected_bits);
 }
 
-static void encode_sch(void) { gsm0503_sch_encode(sent, data); }
+static void encode_sch(void)
+{
+    gsm0503_sch_encode(sent, data);
+}
 
-static void decode_sch(void) { gsm0503_sch_decode(decoded, received); }
+static void decode_sch(void)
+{
+    gsm0503_sch_decode(decoded, received);
+}
 
-/* A way of coding: the bits that it reads, those that it writes. */
+/* A way of coding: the names of its two directions, how many bits it reads and writes, and its two calls. */
 struct coding {
-    const char *encode_name, *decode_name;
-    size_t reads, writes;
-    void (*encode)(void), (*decode)(void);
+    const char *encode_name;
+    const char *decode_name;
+    unsigned reads;
+    unsigned writes;
+    void (*encode)(void);
+    void (*decode)(void);
 };
 
 static const struct coding codings[] = {
-    {"speech-encode", "speech-decode", 264, 8 * 116, encode_speech, decode_speech},
-    {"control-encode", "control-decode", 184, 4 * 116, encode_control, decode_control},
-    {"sacch-encode", "sacch-decode", 184, 4 * 116, encode_control, decode_control},
+    {"speech-encode", "speech-decode", 8 * SPEECH_BYTES, 8 * BURST, encode_speech, decode_speech},
+    {"control-encode", "control-decode", 184, 4 * BURST, encode_control, decode_control},
+    {"sacch-encode", "sacch-decode", 184, 4 * BURST, encode_control, decode_control},
     {"access-encode", "access-decode", 8, 36, encode_access, decode_access},
     {"sch-encode", "sch-decode", 25, 78, encode_sch, decode_sch},
 };
 
 /* Bits in no order that the coding knows. */
-static void fill(size_t bits) {
+static void fill(unsigned bits)
+{
     uint32_t x = 1;
-    for (size_t i = 0; i < bits; i++) {
+
+    for (unsigned k = 0; k < bits; k++) {
         x = x * 75 % 65537;
-        data[i / 8] |= x % 2 << i % 8;
+        data[k / 8] |= (uint8_t)(x % 2 << k % 8);
     }
-    if (bits == 8 * LONGEST) {
-        data[0] = SIGNATURE << 4 | (data[0] & 0xf);
-    }
+    data[0] = (uint8_t)(SIGNATURE << 4 | (data[0] & 0xf));
 }
 
-static void repeat(void (*call)(void), unsigned long calls) {
-    for (unsigned long i = 0; i < calls; i++) {
+static void repeat(void (*call)(void), unsigned long calls)
+{
+    for (unsigned long k = 0; k < calls; k++) {
         call();
     }
 }
 
-/* Whether the data came back. */
-static bool run(const struct coding *coding, unsigned long encodes, unsigned long decodes) {
+/* Whether the data comes back. */
+static bool comes_back(const struct coding *coding, unsigned long encodes, unsigned long decodes)
+{
     fill(coding->reads);
     repeat(coding->encode, encodes);
-    osmo_ubit2sbit(received, sent, coding->writes);
+    osmo_ubit2sbit(received, sent, coding->writes); /* 0 as +127, 1 as -127 */
     repeat(coding->decode, decodes);
-    return memcmp(data, decoded, sizeof data) == 0;
+    return memcmp(decoded, data, sizeof data) == 0;
 }
 
-/* Whether the name is known and the data came back. */
-static bool run_named(const char *name, unsigned long calls) {
-    for (size_t i = 0; i < sizeof codings / sizeof *codings; i++) {
-        if (strcmp(name, codings[i].encode_name) == 0) {
-            return run(&codings[i], calls, 1);
+/* Whether there is an entry of this name, and the data comes back. */
+static bool run(const char *name, unsigned long calls)
+{
+    for (size_t k = 0; k < sizeof codings / sizeof codings[0]; k++) {
+        if (strcmp(name, codings[k].encode_name) == 0) {
+            return comes_back(&codings[k], calls, 1);
         }
-        if (strcmp(name, codings[i].decode_name) == 0) {
-            return run(&codings[i], 1, calls);
+        if (strcmp(name, codings[k].decode_name) == 0) {
+            return comes_back(&codings[k], 1, calls);
         }
     }
     return false;
 }
 
-int main(int argc, char **argv) {
-    if (argc == 3 && run_named(argv[1], strtoul(argv[2], NULL, 10))) {
+int main(int argc, char **argv)
+{
+    if (argc == 3 && run(argv[1], strtoul(argv[2], NULL, 10))) {
         return EXIT_SUCCESS;
     }
-    fputs("no such entry, or what was decoded is not what was encoded\n", stderr);
+    fputs("no such entry, or what is decoded is not what was encoded\n", stderr);
     return EXIT_FAILURE;
 }

@@ -1,6 +1,5 @@
-//! The entries of the reference for host/bench/bench: NAME CALLS calls the named one so many times,
-//! where the calls of a take are those for the first bursts of a stream. What is decoded must be
-//! what was encoded.
+//! The entries of the reference that host/bench/bench counts: NAME CALLS calls one of them so many
+//! times. Takes are those of the first bursts of a stream. What is decoded must be what was encoded.
 
 // Only a part of the reference is asked here.
 #![allow(dead_code)]
@@ -32,6 +31,7 @@ use receiving::Received;
 use receiving_stream::{Receiver, Taken};
 use sending_stream::{sent_and_ended, Sender};
 use std::process::ExitCode;
+use std::slice::from_ref;
 
 /// The base station of access.
 const IDENTITY: u16 = 7;
@@ -92,41 +92,47 @@ fn repeat<T>(calls: usize, mut call: impl FnMut() -> T) -> T {
     given
 }
 
-/// Whether a block came back.
-fn code(coding: &Coding, encodes: usize, decodes: usize) -> bool {
+/// Whether a block is encoded so many times.
+fn encode(coding: &Coding, calls: usize) -> bool {
     let d = bits(coding.reads);
-    let c = repeat(encodes, || (coding.encode)(&d)).unwrap();
-    repeat(decodes, || (coding.decode)(&c)) == Ok((0, d))
+    repeat(calls, || (coding.encode)(&d)).is_ok()
 }
 
-/// Whether a stream sent so many blocks.
-fn send(blocks: usize, length: usize) -> bool {
+/// Whether a block comes back, decoded so many times.
+fn decode(coding: &Coding, calls: usize) -> bool {
+    let d = bits(coding.reads);
+    let c = (coding.encode)(&d).unwrap();
+    repeat(calls, || (coding.decode)(&c)) == Ok((0, d))
+}
+
+/// Whether a stream sends so many blocks.
+fn send(calls: usize, length: usize) -> bool {
     let d = bits(length);
     let mut sender = Sender::fresh();
-    repeat(blocks, || sender.send(&d)).is_ok()
+    repeat(calls, || sender.send(&d)).is_ok()
 }
 
-/// Whether the last of so many bursts brought what it must: the eighth brings the block.
-fn take(bursts: usize, length: usize) -> bool {
+/// Whether so many of a block's eight bursts are taken: the eighth brings the block.
+fn take(calls: usize, length: usize) -> bool {
     let block = bits(length);
-    let sent = sent_and_ended(&[block.clone()]);
+    let bursts = sent_and_ended(from_ref(&block));
     let mut receiver = Receiver::fresh();
-    let mut numbered = (0..).zip(&sent);
+    let mut numbered = (0..).zip(&bursts);
     let next = || numbered.next().map(|(number, e)| receiver.take(number, e));
-    match repeat(bursts, next) {
-        Some(Ok(Taken::Good { d, .. })) => d == block && bursts == 8,
-        Some(Ok(Taken::Waiting)) => bursts < 8,
+    match repeat(calls, next) {
+        Some(Ok(Taken::Waiting)) => calls < 8,
+        Some(Ok(Taken::Good { d, .. })) => d == block,
         _ => false,
     }
 }
 
-/// Whether the name is known and all went well.
+/// Whether there is an entry of this name, and its calls go well.
 fn run(name: &str, calls: usize) -> bool {
-    let (kind, direction) = name.rsplit_once('-').unwrap_or((name, ""));
+    let (kind, call) = name.split_once('-').unwrap_or_default();
     let coding = CODINGS.iter().find(|coding| coding.name == kind);
-    match (kind, direction, coding) {
-        (_, "encode", Some(coding)) => code(coding, calls, 1),
-        (_, "decode", Some(coding)) => code(coding, 1, calls),
+    match (kind, call, coding) {
+        (_, "encode", Some(coding)) => encode(coding, calls),
+        (_, "decode", Some(coding)) => decode(coding, calls),
         ("send", "speech", _) => send(calls, 260),
         ("send", "facch", _) => send(calls, 184),
         ("take", "speech", _) => take(calls, 260),
@@ -141,7 +147,7 @@ fn main() -> ExitCode {
     match (arguments.get(1), calls) {
         (Some(name), Some(calls)) if run(name, calls) => ExitCode::SUCCESS,
         _ => {
-            eprintln!("no such entry, or what was decoded is not what was encoded");
+            eprintln!("no such entry, or what is decoded is not what was encoded");
             ExitCode::FAILURE
         }
     }

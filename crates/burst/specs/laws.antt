@@ -1,3 +1,4 @@
 pub mod Places
 pub mod Four
 pub mod Held
+pub mod Table

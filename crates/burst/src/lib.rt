@@ -1,9 +1,13 @@
 // The bursts: where a block's coded bits and flags stand in them (000, 3.1.3, 3.1.4, 4.1.4, 4.1.5).
+mod places;
+
+use places::PLACES;
 ghost use mathlib.Core.Path.{_≡_};
 ghost use Prim.Native.Nat.{_+_, _*_, _%_, _≤_, _<_};
 ghost use lib.Dec.{ltb};
 ghost use lib.ListN.{length};
 ghost use Rattle.bits.specs.Bits.{pick, tab, total};
+ghost use Rattle.burst.specs.laws.Held.{straight};
 ghost use Rattle.burst.specs.Places.{placeAt, bitAt, cell, burst, four, eAt, gathered, firstBurst, heldBit, hl, hu};
 
 // Blocks are counted by n and bursts by B (01, Bursts and streams), each in a type of its own.
@@ -72,23 +76,15 @@ pub fn fill_four(a: &[u8], p: u8, b: &[u8], q: u8, e: &mut [u8])
     fill(3, a, p, b, q, &mut e[348..464]);
 }
 
-// The e-index of bit k.
-fn e_at(k: usize) -> usize
-    requires { ⌜ k < 456 ⌝ }
-    ensures { λ r. ⌜ (r ≡ eAt k) × (r < 116) ⌝ }
-{
-    let j = 2 * (49 * k % 57) + k % 8 / 4;
-    if j < 57 { j } else { j + 2 }
-}
-
 // The coded bits of one block out of its four bursts.
 pub fn gather_four(e: &[u8], c: &mut [u8])
     requires { ⌜ (length (now e) ≡ 464) × (length (now c) ≡ 456) ⌝ }
     ensures { λ _. ⌜ now (c .exit) ≡ gathered (now (e .entry)) ⌝ }
 {
+    let at = PLACES;
     let mut k = 0;
     while k < 456 {
-        c[k] = e[116 * (k % 4) + e_at(k)];
+        c[k] = e[at[k] as usize % 464];
         k += 1;
     }
 }
@@ -108,15 +104,28 @@ fn held_bit(first: usize, r: usize, x: usize, held: &[u8]) -> u8
     held[116 * ((first + r) % 8) + x] % 2
 }
 
+// The eight bursts in the order of a block that begins at `first` among them.
+fn straighten(first: usize, held: &[u8], whole: &mut [u8])
+    requires { ⌜ (first < 8) × (length (now held) ≡ 928) × (length (now whole) ≡ 928) ⌝ }
+    ensures { λ _. ⌜ now (whole .exit) ≡ straight first (now (held .entry)) ⌝ }
+{
+    let from = 116 * first;
+    let rest = 928 - from;
+    bits::copy(&held[from..928], &mut whole[0..rest]);
+    bits::copy(&held[0..from], &mut whole[rest..928]);
+}
+
 // The coded bits of the block whose first burst is B, out of the eight bursts that are held.
 pub fn gather_eight(b: BurstNumber, held: &[u8], c: &mut [u8])
     requires { ⌜ (length (now held) ≡ 928) × (length (now c) ≡ 456) ⌝ }
     ensures { λ _. ⌜ now (c .exit) ≡ tab 456 (λ k. heldBit (now (held .entry)) (b .0 + k % 8) (eAt k)) ⌝ }
 {
-    let first = (b.0 % 8) as usize;
+    let mut whole = [0u8; 928];
+    straighten((b.0 % 8) as usize, held, &mut whole);
+    let at = PLACES;
     let mut k = 0;
     while k < 456 {
-        c[k] = held_bit(first, k % 8, e_at(k), held);
+        c[k] = whole[at[k] as usize] % 2;
         k += 1;
     }
 }

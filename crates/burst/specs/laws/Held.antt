@@ -9,10 +9,11 @@ use native.Mathlib.Omega.{arith}
 use lib.Count.{ones, ones-cat}
 use lib.Dec.{ltb, lit<}
 use lib.ListN.{length, getD, take, drop, length-append, length-drop}
-use lib.Seq.{length-take-le, getD-take, getD-drop}
+use lib.Seq.{length-take-le, take-all, getD-take, getD-drop}
 use lib.Pow.{pow-mono}
 use Rattle.bits.specs.Bits.{pick, total}
 use Rattle.bits.specs.laws.Cases.{lt-or-le}
+use Rattle.bits.specs.laws.Parts.{put, put-two}
 use Rattle.bits.specs.laws.Tab.{at-left, at-right}
 use Rattle.bits.specs.laws.Total.{total-same}
 use Rattle.burst.specs.Places.{heldBit, kept, hl, hu}
@@ -22,6 +23,44 @@ unfolding heldBit
 held-first held b r x =
     let e : (b % 8 + r) % 8 ≡ (b + r) % 8 = omega arith in
     ap (λ (k : ℕ). getD held (116 * k + x) 0 % 2) e
+
+-- ---- the eight bursts in the order of a block
+unfoldable pub straight : ℕ → List ℕ → List ℕ
+straight first held = drop (116 * first) held ++ take (116 * first) held
+
+pub straightened : (first : ℕ) (held whole y z : List ℕ) → first < 8 → length held ≡ 928 → length whole ≡ 928
+    → y ≡ take (928 - 116 * first) (drop (116 * first) held) → z ≡ take (116 * first - 0) held
+    → put (928 - 116 * first) (928 - (928 - 116 * first)) z (put 0 (928 - 116 * first - 0) y whole) ≡ straight first held
+unfolding straight
+straightened first held whole y z h lh lw ey ez =
+    let n : ℕ = 928 - 116 * first in
+    let back : length (drop (116 * first) held) ≡ n = length-drop (116 * first) held ∙ omega (arith, lh) in
+    let all : take n (drop (116 * first) held) ≡ drop (116 * first) held = take-all n (drop (116 * first) held) (omega (arith, back)) in
+    let none : 116 * first - 0 ≡ 116 * first = omega arith in
+    put-two whole y z (n - 0) (928 - n) n (ap length (ey ∙ all) ∙ back) (omega arith) (omega (arith, lw))
+    ∙ ap₂ (λ (v w : List ℕ). v ++ w) (ey ∙ all) (ez ∙ ap (λ (k : ℕ). take k held) none)
+
+pub straight-at : (held : List ℕ) (b r x : ℕ) → length held ≡ 928 → r < 8 → x < 116 → getD (straight (b % 8) held) (116 * r + x) 0 % 2 ≡ heldBit held (b + r) x
+unfolding straight heldBit
+straight-at held b r x lh hr hx = ap (λ (v : ℕ). v % 2) (⊎-elim before behind (lt-or-le (b % 8 + r) 8))
+  where
+    before : b % 8 + r < 8 → getD (drop (116 * (b % 8)) held ++ take (116 * (b % 8)) held) (116 * r + x) 0 ≡ getD held (116 * ((b + r) % 8) + x) 0
+    before l =
+        let long : length (drop (116 * (b % 8)) held) ≡ length held - 116 * (b % 8) = length-drop (116 * (b % 8)) held in
+        let e : (b + r) % 8 ≡ b % 8 + r = omega (arith, l) in
+        let i : 116 * (b % 8) + (116 * r + x) ≡ 116 * ((b + r) % 8) + x = omega (arith, e) in
+        at-left (drop (116 * (b % 8)) held) (take (116 * (b % 8)) held) (116 * r + x) (omega (arith, long, lh, l))
+        ∙ getD-drop (116 * (b % 8)) held (116 * r + x) 0
+        ∙ ap (λ (k : ℕ). getD held k 0) i
+
+    behind : 8 ≤ b % 8 + r → getD (drop (116 * (b % 8)) held ++ take (116 * (b % 8)) held) (116 * r + x) 0 ≡ getD held (116 * ((b + r) % 8) + x) 0
+    behind l =
+        let long : length (drop (116 * (b % 8)) held) ≡ length held - 116 * (b % 8) = length-drop (116 * (b % 8)) held in
+        let n : ℕ = 928 - 116 * (b % 8) in
+        let j : ℕ = 116 * ((b + r) % 8) + x in
+        let e : (b + r) % 8 + 8 ≡ b % 8 + r = omega (arith, l, hr) in
+        at-right (drop (116 * (b % 8)) held) (take (116 * (b % 8)) held) n j (116 * r + x) (omega (arith, long, lh)) (omega (arith, e))
+        ∙ getD-take (116 * (b % 8)) held j 0 (omega (arith, e, hr, hx))
 
 -- flag i of the block whose first burst is b
 abbrev pub flagFrom : List ℕ → ℕ → ℕ → ℕ

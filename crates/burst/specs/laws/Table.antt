@@ -1,0 +1,83 @@
+-- The table of places by one computed test over its 456 entries, and the rule at each.
+use mathlib.Core.Bool.{Bool}
+use mathlib.Core.List.{List, [], _∷_}
+use mathlib.Core.Logic.{⊎-elim}
+use mathlib.Core.Path.{_≡_, ap, _∙_}
+use Prim.Native.Nat.{ℕ, _+_, _*_, _%_, _≤_, _<_}
+use native.Mathlib.Omega.{arith}
+use lib.Dec.{eqb, eqb→eq}
+use lib.ListN.{getD}
+use Rattle.bits.specs.laws.Cases.{lt-or-le}
+use Rattle.bits.specs.laws.Tab.{below}
+use Rattle.burst.specs.Places.{placeOf, eOf, eAt}
+use Rattle.burst.specs.laws.Places.{every-bit}
+
+unfoldable pub places : List ℕ
+places =
+    0 ∷ 216 ∷ 316 ∷ 416 ∷ 515 ∷ 615 ∷ 715 ∷ 815 ∷ 102 ∷ 202 ∷ 302 ∷ 400 ∷ 501 ∷ 601 ∷ 701 ∷ 917 ∷
+    88 ∷ 188 ∷ 286 ∷ 386 ∷ 487 ∷ 587 ∷ 803 ∷ 903 ∷ 74 ∷ 172 ∷ 272 ∷ 372 ∷ 473 ∷ 689 ∷ 789 ∷ 889 ∷
+    60 ∷ 158 ∷ 258 ∷ 358 ∷ 575 ∷ 675 ∷ 775 ∷ 875 ∷ 44 ∷ 144 ∷ 244 ∷ 460 ∷ 561 ∷ 661 ∷ 761 ∷ 859 ∷
+    30 ∷ 130 ∷ 346 ∷ 446 ∷ 547 ∷ 647 ∷ 745 ∷ 845 ∷ 16 ∷ 116 ∷ 332 ∷ 432 ∷ 533 ∷ 631 ∷ 731 ∷ 831 ∷
+    2 ∷ 218 ∷ 318 ∷ 418 ∷ 517 ∷ 617 ∷ 717 ∷ 817 ∷ 104 ∷ 204 ∷ 304 ∷ 402 ∷ 503 ∷ 603 ∷ 703 ∷ 919 ∷
+    90 ∷ 190 ∷ 288 ∷ 388 ∷ 489 ∷ 589 ∷ 805 ∷ 905 ∷ 76 ∷ 176 ∷ 274 ∷ 374 ∷ 475 ∷ 691 ∷ 791 ∷ 891 ∷
+    62 ∷ 160 ∷ 260 ∷ 360 ∷ 577 ∷ 677 ∷ 777 ∷ 877 ∷ 46 ∷ 146 ∷ 246 ∷ 462 ∷ 563 ∷ 663 ∷ 763 ∷ 861 ∷
+    32 ∷ 132 ∷ 232 ∷ 448 ∷ 549 ∷ 649 ∷ 747 ∷ 847 ∷ 18 ∷ 118 ∷ 334 ∷ 434 ∷ 535 ∷ 633 ∷ 733 ∷ 833 ∷
+    4 ∷ 220 ∷ 320 ∷ 420 ∷ 519 ∷ 619 ∷ 719 ∷ 819 ∷ 106 ∷ 206 ∷ 306 ∷ 404 ∷ 505 ∷ 605 ∷ 705 ∷ 921 ∷
+    92 ∷ 192 ∷ 292 ∷ 390 ∷ 491 ∷ 591 ∷ 807 ∷ 907 ∷ 78 ∷ 178 ∷ 276 ∷ 376 ∷ 477 ∷ 693 ∷ 793 ∷ 893 ∷
+    64 ∷ 162 ∷ 262 ∷ 362 ∷ 579 ∷ 679 ∷ 779 ∷ 879 ∷ 48 ∷ 148 ∷ 248 ∷ 348 ∷ 565 ∷ 665 ∷ 765 ∷ 863 ∷
+    34 ∷ 134 ∷ 234 ∷ 450 ∷ 551 ∷ 651 ∷ 749 ∷ 849 ∷ 20 ∷ 120 ∷ 336 ∷ 436 ∷ 537 ∷ 635 ∷ 735 ∷ 835 ∷
+    6 ∷ 222 ∷ 322 ∷ 422 ∷ 523 ∷ 621 ∷ 721 ∷ 821 ∷ 108 ∷ 208 ∷ 308 ∷ 408 ∷ 507 ∷ 607 ∷ 707 ∷ 923 ∷
+    94 ∷ 194 ∷ 294 ∷ 392 ∷ 493 ∷ 593 ∷ 809 ∷ 909 ∷ 80 ∷ 180 ∷ 278 ∷ 378 ∷ 479 ∷ 695 ∷ 795 ∷ 895 ∷
+    66 ∷ 164 ∷ 264 ∷ 364 ∷ 465 ∷ 681 ∷ 781 ∷ 881 ∷ 50 ∷ 150 ∷ 250 ∷ 350 ∷ 567 ∷ 667 ∷ 767 ∷ 865 ∷
+    36 ∷ 136 ∷ 236 ∷ 452 ∷ 553 ∷ 653 ∷ 751 ∷ 851 ∷ 22 ∷ 122 ∷ 338 ∷ 438 ∷ 539 ∷ 639 ∷ 737 ∷ 837 ∷
+    8 ∷ 224 ∷ 324 ∷ 424 ∷ 525 ∷ 623 ∷ 723 ∷ 823 ∷ 110 ∷ 210 ∷ 310 ∷ 410 ∷ 509 ∷ 609 ∷ 709 ∷ 925 ∷
+    96 ∷ 196 ∷ 296 ∷ 394 ∷ 495 ∷ 595 ∷ 811 ∷ 911 ∷ 82 ∷ 182 ∷ 280 ∷ 380 ∷ 481 ∷ 581 ∷ 797 ∷ 897 ∷
+    68 ∷ 166 ∷ 266 ∷ 366 ∷ 467 ∷ 683 ∷ 783 ∷ 883 ∷ 52 ∷ 152 ∷ 252 ∷ 352 ∷ 569 ∷ 669 ∷ 769 ∷ 867 ∷
+    38 ∷ 138 ∷ 238 ∷ 454 ∷ 555 ∷ 655 ∷ 755 ∷ 853 ∷ 24 ∷ 124 ∷ 340 ∷ 440 ∷ 541 ∷ 641 ∷ 739 ∷ 839 ∷
+    10 ∷ 226 ∷ 326 ∷ 426 ∷ 527 ∷ 625 ∷ 725 ∷ 825 ∷ 112 ∷ 212 ∷ 312 ∷ 412 ∷ 511 ∷ 611 ∷ 711 ∷ 927 ∷
+    98 ∷ 198 ∷ 298 ∷ 396 ∷ 497 ∷ 597 ∷ 697 ∷ 913 ∷ 84 ∷ 184 ∷ 282 ∷ 382 ∷ 483 ∷ 583 ∷ 799 ∷ 899 ∷
+    70 ∷ 168 ∷ 268 ∷ 368 ∷ 469 ∷ 685 ∷ 785 ∷ 885 ∷ 54 ∷ 154 ∷ 254 ∷ 354 ∷ 571 ∷ 671 ∷ 771 ∷ 871 ∷
+    40 ∷ 140 ∷ 240 ∷ 456 ∷ 557 ∷ 657 ∷ 757 ∷ 855 ∷ 26 ∷ 126 ∷ 342 ∷ 442 ∷ 543 ∷ 643 ∷ 741 ∷ 841 ∷
+    12 ∷ 228 ∷ 328 ∷ 428 ∷ 529 ∷ 627 ∷ 727 ∷ 827 ∷ 114 ∷ 214 ∷ 314 ∷ 414 ∷ 513 ∷ 613 ∷ 713 ∷ 813 ∷
+    100 ∷ 200 ∷ 300 ∷ 398 ∷ 499 ∷ 599 ∷ 699 ∷ 915 ∷ 86 ∷ 186 ∷ 284 ∷ 384 ∷ 485 ∷ 585 ∷ 801 ∷ 901 ∷
+    72 ∷ 170 ∷ 270 ∷ 370 ∷ 471 ∷ 687 ∷ 787 ∷ 887 ∷ 56 ∷ 156 ∷ 256 ∷ 356 ∷ 573 ∷ 673 ∷ 773 ∷ 873 ∷
+    42 ∷ 142 ∷ 242 ∷ 458 ∷ 559 ∷ 659 ∷ 759 ∷ 857 ∷ 28 ∷ 128 ∷ 344 ∷ 444 ∷ 545 ∷ 645 ∷ 743 ∷ 843 ∷
+    14 ∷ 230 ∷ 330 ∷ 430 ∷ 531 ∷ 629 ∷ 729 ∷ 829 ∷ []
+
+agrees : ℕ → Bool
+agrees k = eqb (getD places k 0) (116 * (k % 8) + eAt k)
+
+pub place-right : (k : ℕ) → k < 456 → getD places k 0 ≡ 116 * (k % 8) + eAt k
+unfolding agrees places placeOf eOf eAt
+place-right k h = eqb→eq (getD places k 0) (116 * (k % 8) + eAt k) (below agrees 456 tt k h)
+
+pub place-in : (k : ℕ) → k < 456 → getD places k 0 < 928
+place-in k h =
+    let e = place-right k h in
+    let l = every-bit k h .within in
+    omega (arith, e, l)
+
+-- in four bursts the last four stand where the first four do
+within : (y : ℕ) → y < 464 → y % 464 ≡ y
+within y h = omega (arith, h)
+
+beyond : (y : ℕ) → y < 464 → (464 + y) % 464 ≡ y
+beyond y h = omega (arith, h)
+
+pub place-in-four : (k : ℕ) → k < 456 → getD places k 0 % 464 ≡ 116 * (k % 4) + eAt k
+place-in-four k h = ap (λ (x : ℕ). x % 464) (place-right k h) ∙ ⊎-elim early late (lt-or-le (k % 8) 4)
+  where
+    fits : 116 * (k % 4) + eAt k < 464
+    fits = let x = every-bit k h .within in omega (arith, x)
+
+    early : k % 8 < 4 → (116 * (k % 8) + eAt k) % 464 ≡ 116 * (k % 4) + eAt k
+    early l =
+        let r : k % 8 ≡ k % 4 = omega (arith, l) in
+        ap (λ (i : ℕ). (116 * i + eAt k) % 464) r ∙ within (116 * (k % 4) + eAt k) fits
+
+    late : 4 ≤ k % 8 → (116 * (k % 8) + eAt k) % 464 ≡ 116 * (k % 4) + eAt k
+    late l =
+        let e : k % 8 % 4 ≡ k % 4 = omega arith in
+        let f : k % 8 ≡ 4 + k % 8 % 4 = omega (arith, l) in
+        let s : 116 * (k % 8) + eAt k ≡ 464 + (116 * (k % 4) + eAt k) = omega (arith, e, f) in
+        ap (λ (i : ℕ). i % 464) s ∙ beyond (116 * (k % 4) + eAt k) fits
