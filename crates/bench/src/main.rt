@@ -35,6 +35,23 @@ fn run(line: &[u8]) {
 
 // The entry of a name, called so many times.
 fn call(name: &[u8], calls: u8) -> u32 {
+    if same(name, b"send-speech") {
+        return streams::send_speech(calls);
+    }
+    if same(name, b"send-facch") {
+        return streams::send_facch(calls);
+    }
+    if same(name, b"take-speech") {
+        return streams::take_speech(calls);
+    }
+    if same(name, b"take-facch") {
+        return streams::take_facch(calls);
+    }
+    call_block(name, calls)
+}
+
+// An entry of a block.
+fn call_block(name: &[u8], calls: u8) -> u32 {
     if same(name, b"speech-encode") {
         return blocks::speech_encode(calls);
     }
@@ -64,18 +81,6 @@ fn call(name: &[u8], calls: u8) -> u32 {
     }
     if same(name, b"sch-decode") {
         return blocks::sch_decode(calls);
-    }
-    if same(name, b"send-speech") {
-        return streams::send_speech(calls);
-    }
-    if same(name, b"send-facch") {
-        return streams::send_facch(calls);
-    }
-    if same(name, b"take-speech") {
-        return streams::take_speech(calls);
-    }
-    if same(name, b"take-facch") {
-        return streams::take_facch(calls);
     }
     65535
 }

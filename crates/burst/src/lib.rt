@@ -1,14 +1,16 @@
 // The bursts: where a block's coded bits and flags stand in them (000, 3.1.3, 3.1.4, 4.1.4, 4.1.5).
 mod places;
 
+use places::BITS;
 use places::PLACES;
 ghost use mathlib.Core.Path.{_≡_};
 ghost use Prim.Native.Nat.{_+_, _*_, _%_, _≤_, _<_};
-ghost use lib.Dec.{ltb};
-ghost use lib.ListN.{length};
+ghost use lib.Dec.{ltb, eqb};
+ghost use lib.ListN.{length, getD};
 ghost use Rattle.bits.specs.Bits.{pick, tab, total};
 ghost use Rattle.burst.specs.laws.Held.{straight};
-ghost use Rattle.burst.specs.Places.{placeAt, bitAt, cell, burst, four, eAt, gathered, firstBurst, heldBit, hl, hu};
+ghost use Rattle.burst.specs.laws.Table.{unflagged};
+ghost use Rattle.burst.specs.Places.{burst, four, eAt, gathered, firstBurst, heldBit, hl, hu};
 
 // Blocks are counted by n and bursts by B (01, Bursts and streams), each in a type of its own.
 pub struct BlockNumber(pub u16);
@@ -22,45 +24,42 @@ pub fn first_burst(n: BlockNumber) -> BurstNumber
     BurstNumber(4 * n.0 as u32)
 }
 
-// The place of e(x).
-fn place_at(x: usize) -> usize
-    ensures { λ r. ⌜ (r ≡ placeAt x) × (r ≤ x) ⌝ }
+// What stands at e(x) but for the flags: bit n modulo 456, of block a at the even places and of block b at the odd ones.
+fn standing(n: usize, x: usize, a: &[u8], b: &[u8]) -> u8
+    requires { ⌜ (n < 912) × (length (now a) ≡ 456) × (length (now b) ≡ 456) ⌝ }
+    ensures { λ r. ⌜ r ≡ pick (eqb (x % 2) 0) (getD (now (a .entry)) (n % 456) 0) (getD (now (b .entry)) (n % 456) 0) ⌝ }
 {
-    if x < 57 { x } else { x - 2 }
+    let k = wrapped(n);
+    if x % 2 == 0 { a[k] } else { b[k] }
 }
 
-// The bit at place j of the bursts i and i + 4.
-fn bit_at(i: usize, j: usize) -> usize
-    requires { ⌜ (i < 4) × (j < 116) ⌝ }
-    ensures { λ r. ⌜ (r ≡ bitAt i j) × (r < 456) ⌝ }
+// n modulo 456.
+fn wrapped(n: usize) -> usize
+    requires { ⌜ n < 912 ⌝ }
+    ensures { λ r. ⌜ (r ≡ n % 456) × (r < 456) ⌝ }
 {
-    (57 * (i + 4 * (j % 2)) + 64 * (j / 2)) % 456
+    if n < 456 { n } else { n - 456 }
 }
 
-// e(x) of a burst, number i modulo 4, in which block a with flag p begins and block b with flag q goes on.
-fn cell(i: usize, a: &[u8], p: u8, b: &[u8], q: u8, x: usize) -> u8
-    requires { ⌜ (i < 4) × (x < 116) × (length (now a) ≡ 456) × (length (now b) ≡ 456) ⌝ }
-    ensures { λ r. ⌜ r ≡ cell i (now (a .entry)) p (now (b .entry)) q x ⌝ }
-{
-    if x == 57 {
-        return q;
-    }
-    if x == 58 {
-        return p;
-    }
-    let j = place_at(x);
-    let k = bit_at(i, j);
-    if j % 2 == 0 { a[k] } else { b[k] }
-}
-
-// One burst.
+// One burst, number i modulo 4, in which block a with flag p begins and block b with flag q goes on.
 fn fill(i: usize, a: &[u8], p: u8, b: &[u8], q: u8, e: &mut [u8])
     requires { ⌜ (i < 4) × (length (now a) ≡ 456) × (length (now b) ≡ 456) × (length (now e) ≡ 116) ⌝ }
     ensures { λ _. ⌜ now (e .exit) ≡ burst i (now (a .entry)) p (now (b .entry)) q ⌝ }
 {
+    fill_bits(i, a, b, e);
+    e[57] = q;
+    e[58] = p;
+}
+
+// Its bits.
+fn fill_bits(i: usize, a: &[u8], b: &[u8], e: &mut [u8])
+    requires { ⌜ (i < 4) × (length (now a) ≡ 456) × (length (now b) ≡ 456) × (length (now e) ≡ 116) ⌝ }
+    ensures { λ _. ⌜ now (e .exit) ≡ tab 116 (unflagged i (now (a .entry)) (now (b .entry))) ⌝ }
+{
+    let at = BITS;
     let mut x = 0;
     while x < 116 {
-        e[x] = cell(i, a, p, b, q, x);
+        e[x] = standing(at[x] as usize + 57 * i, x, a, b);
         x += 1;
     }
 }

@@ -38,8 +38,8 @@ fn search(c: &[u8], n: usize, memory: &mut [u16]) -> [u16; 16]
     while k < n {
         let x = c[2 * k];
         let y = c[2 * k + 1];
-        memory[k] = choices(row, x, y);
         let next = step(row, x, y);
+        memory[k] = choices(row, x, y);
         row = next;
         k += 1;
     }

@@ -1,15 +1,18 @@
 -- The table of places by one computed test over its 456 entries, and the rule at each.
-use mathlib.Core.Bool.{Bool}
+use mathlib.Core.Bool.{Bool, true, false}
 use mathlib.Core.List.{List, [], _∷_}
 use mathlib.Core.Logic.{⊎-elim}
-use mathlib.Core.Path.{_≡_, ap, _∙_}
-use Prim.Native.Nat.{ℕ, _+_, _*_, _%_, _≤_, _<_}
+use mathlib.Core.Path.{_≡_, refl, ap, ap₂, _∙_}
+use Prim.Native.Nat.{ℕ, _+_, _*_, _/_, _%_, _≤_, _<_}
 use native.Mathlib.Omega.{arith}
-use lib.Dec.{eqb, eqb→eq}
-use lib.ListN.{getD}
+use lib.Dec.{T, eqb, eqb→eq}
+use lib.ListN.{length, getD, set, length-set}
+use lib.Seq.{getD-set-same, getD-set-other}
+use borrow.Author.Tests.{eqb-true, eqb-false}
+use Rattle.bits.specs.Bits.{pick, both, tab}
 use Rattle.bits.specs.laws.Cases.{lt-or-le}
-use Rattle.bits.specs.laws.Tab.{below}
-use Rattle.burst.specs.Places.{placeOf, eOf, eAt}
+use Rattle.bits.specs.laws.Tab.{below, both-left, both-right, is-tab, at-tab, length-tab}
+use Rattle.burst.specs.Places.{placeOf, eOf, eAt, placeAt, bitAt, cell, burst}
 use Rattle.burst.specs.laws.Places.{every-bit}
 
 unfoldable pub places : List ℕ
@@ -81,3 +84,83 @@ place-in-four k h = ap (λ (x : ℕ). x % 464) (place-right k h) ∙ ⊎-elim ea
         let f : k % 8 ≡ 4 + k % 8 % 4 = omega (arith, l) in
         let s : 116 * (k % 8) + eAt k ≡ 464 + (116 * (k % 4) + eAt k) = omega (arith, e, f) in
         ap (λ (i : ℕ). i % 464) s ∙ beyond (116 * (k % 4) + eAt k) fits
+
+-- ---- which bit stands at e(x) of the first burst, and 57 i further on in burst i
+unfoldable pub bitTable : List ℕ
+bitTable =
+    0 ∷ 228 ∷ 64 ∷ 292 ∷ 128 ∷ 356 ∷ 192 ∷ 420 ∷ 256 ∷ 28 ∷ 320 ∷ 92 ∷ 384 ∷ 156 ∷ 448 ∷ 220 ∷
+    56 ∷ 284 ∷ 120 ∷ 348 ∷ 184 ∷ 412 ∷ 248 ∷ 20 ∷ 312 ∷ 84 ∷ 376 ∷ 148 ∷ 440 ∷ 212 ∷ 48 ∷ 276 ∷
+    112 ∷ 340 ∷ 176 ∷ 404 ∷ 240 ∷ 12 ∷ 304 ∷ 76 ∷ 368 ∷ 140 ∷ 432 ∷ 204 ∷ 40 ∷ 268 ∷ 104 ∷ 332 ∷
+    168 ∷ 396 ∷ 232 ∷ 4 ∷ 296 ∷ 68 ∷ 360 ∷ 132 ∷ 424 ∷ 132 ∷ 424 ∷ 196 ∷ 32 ∷ 260 ∷ 96 ∷ 324 ∷
+    160 ∷ 388 ∷ 224 ∷ 452 ∷ 288 ∷ 60 ∷ 352 ∷ 124 ∷ 416 ∷ 188 ∷ 24 ∷ 252 ∷ 88 ∷ 316 ∷ 152 ∷ 380 ∷
+    216 ∷ 444 ∷ 280 ∷ 52 ∷ 344 ∷ 116 ∷ 408 ∷ 180 ∷ 16 ∷ 244 ∷ 80 ∷ 308 ∷ 144 ∷ 372 ∷ 208 ∷ 436 ∷
+    272 ∷ 44 ∷ 336 ∷ 108 ∷ 400 ∷ 172 ∷ 8 ∷ 236 ∷ 72 ∷ 300 ∷ 136 ∷ 364 ∷ 200 ∷ 428 ∷ 264 ∷ 36 ∷
+    328 ∷ 100 ∷ 392 ∷ 164 ∷ []
+
+bit-agrees : ℕ → Bool
+bit-agrees x = both (eqb (getD bitTable x 0) (bitAt 0 (placeAt x))) (eqb (x % 2) (placeAt x % 2))
+
+bit-tested : (x : ℕ) → x < 116 → T (bit-agrees x)
+unfolding bit-agrees bitTable placeAt bitAt
+bit-tested x h = below bit-agrees 116 tt x h
+
+bit-right : (x : ℕ) → x < 116 → getD bitTable x 0 ≡ bitAt 0 (placeAt x)
+unfolding bit-agrees
+bit-right x h = eqb→eq (getD bitTable x 0) (bitAt 0 (placeAt x)) (both-left (eqb (getD bitTable x 0) (bitAt 0 (placeAt x))) (eqb (x % 2) (placeAt x % 2)) (bit-tested x h))
+
+side-right : (x : ℕ) → x < 116 → x % 2 ≡ placeAt x % 2
+unfolding bit-agrees
+side-right x h = eqb→eq (x % 2) (placeAt x % 2) (both-right (eqb (getD bitTable x 0) (bitAt 0 (placeAt x))) (eqb (x % 2) (placeAt x % 2)) (bit-tested x h))
+
+pub bit-in : (x : ℕ) → x < 116 → getD bitTable x 0 < 456
+unfolding bitAt
+bit-in x h = let e = bit-right x h in omega (arith, e)
+
+further : (m i : ℕ) → (m % 456 + 57 * i) % 456 ≡ (m + 57 * i) % 456
+further m i = omega arith
+
+bit-further : (i j : ℕ) → (bitAt 0 j + 57 * i) % 456 ≡ bitAt i j
+unfolding bitAt
+bit-further i j =
+    let e : 57 * (0 + 4 * (j % 2)) + 64 * (j / 2) + 57 * i ≡ 57 * (i + 4 * (j % 2)) + 64 * (j / 2) = omega arith in
+    further (57 * (0 + 4 * (j % 2)) + 64 * (j / 2)) i ∙ ap (λ (x : ℕ). x % 456) e
+
+-- a burst's byte but for its flags
+unfoldable pub unflagged : ℕ → List ℕ → List ℕ → ℕ → ℕ
+unflagged i a b x = pick (eqb (placeAt x % 2) 0) (getD a (bitAt i (placeAt x)) 0) (getD b (bitAt i (placeAt x)) 0)
+
+pub stands : (i : ℕ) (a b : List ℕ) (x : ℕ) → x < 116
+    → pick (eqb (x % 2) 0) (getD a ((getD bitTable x 0 + 57 * i) % 456) 0) (getD b ((getD bitTable x 0 + 57 * i) % 456) 0) ≡ unflagged i a b x
+unfolding unflagged
+stands i a b x h =
+    let k : (getD bitTable x 0 + 57 * i) % 456 ≡ bitAt i (placeAt x) = ap (λ (n : ℕ). (n + 57 * i) % 456) (bit-right x h) ∙ bit-further i (placeAt x) in
+    ap₂ (λ (s n : ℕ). pick (eqb s 0) (getD a n 0) (getD b n 0)) (side-right x h) k
+
+-- the flags are set last
+module _ (i : ℕ) (a : List ℕ) (p : ℕ) (b : List ℕ) (q : ℕ) (e : List ℕ) (ee : e ≡ tab 116 (unflagged i a b)) where
+  e-long : length e ≡ 116
+  e-long = ap length ee ∙ length-tab 116 (unflagged i a b)
+
+  at : (x : ℕ) → x < 116 → getD (set (set e 57 q) 58 p) x 0 ≡ cell i a p b q x
+  unfolding cell unflagged
+  at x h = by-tests (eqb x 57) (eqb x 58) refl refl
+    where
+      by-tests : (f g : Bool) → eqb x 57 ≡ f → eqb x 58 ≡ g
+          → getD (set (set e 57 q) 58 p) x 0 ≡ pick f q (pick g p (pick (eqb (placeAt x % 2) 0) (getD a (bitAt i (placeAt x)) 0) (getD b (bitAt i (placeAt x)) 0)))
+      by-tests true g ef eg =
+          let is : x ≡ 57 = eqb-true x 57 ef in
+          let here : 57 < length e = omega (arith, e-long) in
+          getD-set-other (set e 57 q) 58 x p 0 (λ (z : x ≡ 58). omega (arith, is, z))
+          ∙ ap (λ (k : ℕ). getD (set e 57 q) k 0) is ∙ getD-set-same e 57 q 0 here
+      by-tests false true ef eg =
+          let is : x ≡ 58 = eqb-true x 58 eg in
+          let here : 58 < length (set e 57 q) = rw (length-set e 57 q) (omega (arith, e-long)) in
+          ap (λ (k : ℕ). getD (set (set e 57 q) 58 p) k 0) is ∙ getD-set-same (set e 57 q) 58 p 0 here
+      by-tests false false ef eg =
+          getD-set-other (set e 57 q) 58 x p 0 (eqb-false x 58 eg)
+          ∙ getD-set-other e 57 x q 0 (eqb-false x 57 ef)
+          ∙ ap (λ (w : List ℕ). getD w x 0) ee ∙ at-tab 116 (unflagged i a b) x h
+
+  pub flagged : set (set e 57 q) 58 p ≡ burst i a p b q
+  unfolding burst
+  flagged = is-tab 116 (cell i a p b q) (set (set e 57 q) 58 p) (simp length-set e-long) at

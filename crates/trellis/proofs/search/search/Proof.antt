@@ -26,9 +26,9 @@ loop-again c =
     let l = c .before .before .before .before .before .loop in
     let r = start .args .c .now in (
       search needs,
-      length-set (l .memory) (l .k) (c .before .choices .result) ∙ l .inv .1,
-      row-more r (l .row) (c .step .result) (l .k) (l .inv .2) (c .step .ensures),
-      remembers-more r (l .memory) (l .row) (l .k) (c .before .choices .result) (omega (arith, start .pre .1, l .inv .1)) (l .inv .2) (c .before .choices .ensures) (l .inv .3),
+      length-set (l .memory) (l .k) (c .choices .result) ∙ l .inv .1,
+      row-more r (l .row) (c .before .step .result) (l .k) (l .inv .2) (c .before .step .ensures),
+      remembers-more r (l .memory) (l .row) (l .k) (c .choices .result) (omega (arith, start .pre .1, l .inv .1)) (l .inv .2) (c .choices .ensures) (l .inv .3),
     )
 
 returns : tie.Need-returns Inv-loop μ-loop
@@ -52,9 +52,9 @@ search-spec =
     (λ c. search needs)
     (λ c. search needs)
     (λ c κs. let b = c .before .before .before .before .before .before .pre .3 in let k = c .before .before .before .loop .k in (b (2 * k), b (2 * k + 1)))
-    (λ c. search needs)
-    (λ c. search needs)
     (λ c κs. let b = c .before .before .before .before .before .before .before .pre .3 in let k = c .before .before .before .before .loop .k in (b (2 * k), b (2 * k + 1)))
+    (λ c. search needs)
+    (λ c. search needs)
     (λ c. search needs)
     (λ c. search needs)
     loop-again
