@@ -13,7 +13,7 @@ slice-write-e-2 c =
     let s = c .before .before .before .before .before .before .before .args in
     let e = c .before .before .fill-bits .last .1 .1 .1 .0 in
     let long : length e ≡ 116 = ap length (c .before .before .fill-bits .ensures) ∙ length-tab 116 (unflagged (s .i) (s .a .now) (s .b .now)) in
-    rw (length-set e 57 (s .q)) (omega (arith, long))
+    simp length-set (omega (arith, long))
 
 returns : tie.Need-returns
 returns c =
