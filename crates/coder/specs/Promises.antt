@@ -1,18 +1,17 @@
 -- What is promised of sending and receiving together, over the definitions that the entries' contracts cite. Proved in laws/Promises.
 use mathlib.Core.List.{List, _++_}
+use mathlib.Core.Option.{Option, none, some}
 use mathlib.Core.Path.{_≡_}
 use Prim.Native.Nat.{ℕ, _≤_}
 use lib.ListN.{length, take, drop}
 use Rattle.bits.specs.Bits.{Bits}
 use Rattle.trellis.specs.Nearest.{disagreements}
 use Rattle.burst.specs.Places.{gathered}
-use Rattle.coder.specs.Answers.{Answer}
+use Rattle.coder.specs.Answers.{Answer, numberGiven}
 use Rattle.coder.specs.Entries.{speechSent, controlSent, sacchSent, accessSent, schSent}
-use Rattle.coder.specs.Received.{speechReceived, controlReceived, sacchReceived, accessReceived, schReceived}
+use Rattle.coder.specs.Received.{numberHeard, countHeard, speechReceived, controlReceived, sacchReceived, accessReceived, schReceived}
 use Rattle.coder.specs.declared.Heard.{Heard}
-use Rattle.coder.specs.declared.Heard.the-variants.{Good, Bad}
 use Rattle.coder.specs.declared.Told.{Told}
-use Rattle.coder.specs.declared.Told.the-variants.{Done}
 
 -- n bits to read, and a lent buffer of m bytes
 pub record Given (n m : ℕ) (d out : List ℕ) : Type 0 where
@@ -24,19 +23,23 @@ pub record Given (n m : ℕ) (d out : List ℕ) : Type 0 where
 abbrev pub altered : (List ℕ → List ℕ) → List ℕ → List ℕ → ℕ
 altered protected sent arrived = disagreements (protected arrived) (protected sent)
 
--- good, with this count and these bits handed over; refused with 8, with this count, the buffer as before
-abbrev pub accepted : ℕ → List ℕ → Answer Heard
-accepted count bits = record { told = Good count; left = bits }
+-- what a receiving entry returns, in 01's number and count, and what the buffer then holds
+abbrev pub Returns : Answer Heard → Option ℕ → Option ℕ → List ℕ → Type 0
+Returns a number count left = (numberHeard (a .told) ≡ number) × (countHeard (a .told) ≡ count) × (a .left ≡ left)
 
-abbrev pub found-bad : ℕ → List ℕ → Answer Heard
-found-bad count before = record { told = Bad count; left = before }
+-- good: no number, this count, these bits handed over; found bad: 8, this count, the buffer as before
+abbrev pub Accepts : Answer Heard → ℕ → List ℕ → Type 0
+Accepts a count bits = Returns a none (some count) bits
+
+abbrev pub FindsBad : Answer Heard → ℕ → List ℕ → Type 0
+FindsBad a count before = Returns a (some 8) (some count) before
 
 -- Any n bits d are sent, and are m. Any m bits e arrive. If at most three of the protected bits are altered, what is received is good,
 -- the count is the number altered, and the bits are those that `handed` says of d and e.
 abbrev pub ComesBack : ℕ → ℕ → (List ℕ → List ℕ → Answer Told) → (List ℕ → List ℕ → Answer Heard) → (List ℕ → List ℕ) → (List ℕ → List ℕ → List ℕ) → Type 0
 ComesBack n m send receive protected handed =
     (d c e out : List ℕ) → Given n m d c → Given m n e out → altered protected (send d c .left) e ≤ 3
-    → (send d c .told ≡ Done) × (receive e out ≡ accepted (altered protected (send d c .left) e) (handed d e))
+    → (numberGiven (send d c .told) ≡ none) × Accepts (receive e out) (altered protected (send d c .left) e) (handed d e)
 
 -- every bit is protected; the bits are those that were sent
 abbrev pub whole : List ℕ → List ℕ
@@ -67,7 +70,7 @@ AcceptedUnder i = ComesBack 8 36 (accessSent i) (accessReceived i) whole asSent
 abbrev pub RefusedUnder : ℕ → ℕ → Type 0
 RefusedUnder i j =
     (d c e out : List ℕ) → Given 8 36 d c → Given 36 8 e out → altered whole (accessSent i d c .left) e ≤ 3
-    → accessReceived j e out ≡ found-bad (altered whole (accessSent i d c .left) e) out
+    → FindsBad (accessReceived j e out) (altered whole (accessSent i d c .left) e) out
 
 abbrev pub AccessPromise : Type 0
 AccessPromise = (i : ℕ) → i ≤ 63 → AcceptedUnder i × ((j : ℕ) → j ≤ 63 → (j ≡ i → ⊥) → RefusedUnder i j)

@@ -1,6 +1,7 @@
 -- Demand 3, for streams, over the definitions that the contracts of `stream` cite. Proved in laws/Promise.
 use mathlib.Core.Bool.{true}
 use mathlib.Core.List.{List, [], _∷_, _++_}
+use mathlib.Core.Option.{none, some}
 use mathlib.Core.Path.{_≡_}
 use Prim.Native.Nat.{ℕ, zero, suc, _+_, _*_, _/_, _%_, _≤_, _<_}
 use lib.Dec.{ltb}
@@ -8,12 +9,13 @@ use lib.ListN.{length, getD, take, drop}
 use Rattle.bits.specs.Bits.{Bits, pick, tab, total}
 use Rattle.burst.specs.Places.{eAt, placeAt, hl, hu, firstBurst}
 use Rattle.trellis.specs.Nearest.{disagreements}
-use Rattle.stream.specs.Answers.{Answer}
+use Rattle.stream.specs.Answers.{Answer, numberGiven, numberTaken, kindTaken, blockTaken, countTaken}
 use Rattle.stream.specs.Receiving.{Brought, vote, byKind, freshReceiver, takeAnswer}
 use Rattle.stream.specs.Sending.{isFacch, isBlock, freshSender, sendAnswer, endAnswer}
 use Rattle.stream.specs.declared.Taken.{Taken}
-use Rattle.stream.specs.declared.Taken.the-variants.{Waiting, Speech, Facch}
-use Rattle.stream.specs.declared.Told.the-variants.{Done}
+use Rattle.stream.specs.declared.Taken.the-variants.{Waiting}
+use Rattle.stream.specs.declared.receiver.Kind.{Kind}
+use Rattle.stream.specs.declared.receiver.Kind.the-variants as kind
 use Rattle.stream.specs.declared.receiver.Receiver.{Receiver}
 use Rattle.stream.specs.declared.sender.Sender.{Sender}
 
@@ -73,15 +75,20 @@ altered d sent rx n = disagreements (protected d (ownBits rx n)) (protected d (o
 unfoldable pub flagsAltered : List ℕ → List ℕ → ℕ → ℕ
 flagsAltered sent rx n = disagreements (ownFlags rx n) (ownFlags sent n)
 
--- the kind that was sent, n and the count; the protected bits as sent, the others as received. FACCH leaves the last 76 bytes
-unfoldable pub comesOut : List ℕ → ℕ → ℕ → List ℕ → List ℕ → Brought
-comesOut d n count c out =
-    pick (isFacch (length d)) (record { told = Facch (record { 0 = n }) count; left = d ++ drop 184 out })
-    (record { told = Speech (record { 0 = n }) count; left = take 182 d ++ drop 378 c })
+-- the kind that was sent; and the bits handed over: the protected ones as sent, the others as received. FACCH leaves the last 76 bytes
+unfoldable pub kindOf : List ℕ → Kind
+kindOf d = pick (isFacch (length d)) kind.Facch kind.Speech
 
--- what is said at a burst, and what the buffer then holds
-abbrev pub Says : Answer Taken Receiver → Brought → Type 0
-Says a b = (a .told ≡ b .told) × (a .left ≡ b .left)
+unfoldable pub bitsOut : List ℕ → List ℕ → List ℕ → List ℕ
+bitsOut d c out = pick (isFacch (length d)) (d ++ drop 184 out) (take 182 d ++ drop 378 c)
+
+-- a block comes back: no number is given, but the block's kind, its n and its count, and the buffer then holds these bytes
+pub record Brings (a : Answer Taken Receiver) (k : Kind) (n altered : ℕ) (bytes : List ℕ) : Type 0 where
+  pub number : numberTaken (a .told) ≡ none
+  pub kind : kindTaken (a .told) ≡ some k
+  pub block : blockTaken (a .told) ≡ some n
+  pub count : countTaken (a .told) ≡ some altered
+  pub left : a .left ≡ bytes
 
 -- ---- THE PROMISE: any lesson is sent and ended, and any bits arrive, as many as were sent. Whatever happened to other blocks: if at most
 -- three of block n's own protected bits and at most three of its own flags are altered, burst 4n+7 brings it.
@@ -91,12 +98,13 @@ StreamPromise =
     → (rx : List ℕ) (out : ℕ → List ℕ) → Arrives (4 * length ds + 4) rx out
     → (n : ℕ) → n < length ds
     → altered (getD ds n []) (made lent ds) rx n ≤ 3 → flagsAltered (made lent ds) rx n ≤ 3
-    → Says (saysAt rx out (4 * n + 7)) (comesOut (getD ds n []) n (altered (getD ds n []) (made lent ds) rx n) (ownBits rx n) (out (4 * n + 7)))
+    → Brings (saysAt rx out (4 * n + 7)) (kindOf (getD ds n [])) n (altered (getD ds n []) (made lent ds) rx n)
+    (bitsOut (getD ds n []) (ownBits rx n) (out (4 * n + 7)))
 
--- every send and the end are done, and N blocks make 4N+4 bursts
+-- every send and the end give no number, and N blocks make 4N+4 bursts
 unfoldable pub AllDone : Sender → (ℕ → List ℕ) → List (List ℕ) → Type 0
-AllDone s lent [] = endAnswer s (lent 0) .told ≡ Done
-AllDone s lent (d ∷ ds) = (sendAnswer s d (lent 0) .told ≡ Done) × AllDone (sendAnswer s d (lent 0) .next) (λ i. lent (suc i)) ds
+AllDone s lent [] = numberGiven (endAnswer s (lent 0) .told) ≡ none
+AllDone s lent (d ∷ ds) = (numberGiven (sendAnswer s d (lent 0) .told) ≡ none) × AllDone (sendAnswer s d (lent 0) .next) (λ i. lent (suc i)) ds
 
 abbrev pub BurstsMade : Type 0
 BurstsMade =
@@ -116,6 +124,10 @@ IdleHalves =
 -- "waiting"
 unfoldable pub heardAt : List ℕ → ℕ → List ℕ → Brought
 heardAt rx n out = byKind (vote (total 8 (λ i. getD (ownFlags rx n) i 0))) n (ownBits rx n) out
+
+-- what is said at a burst, and what the buffer then holds
+abbrev pub Says : Answer Taken Receiver → Brought → Type 0
+Says a b = (a .told ≡ b .told) × (a .left ≡ b .left)
 
 abbrev pub Locality : Type 0
 Locality =

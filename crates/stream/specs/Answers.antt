@@ -9,6 +9,8 @@ use Rattle.stream.specs.declared.Told.{Told}
 use Rattle.stream.specs.declared.Told.the-variants as told
 use Rattle.stream.specs.declared.Taken.{Taken}
 use Rattle.stream.specs.declared.Taken.the-variants as taken
+use Rattle.stream.specs.declared.receiver.Kind.{Kind}
+use Rattle.stream.specs.declared.receiver.Kind.the-variants as kind
 
 -- 01, Numbers given for a no
 abbrev pub numberOf : Refusal → ℕ
@@ -24,7 +26,7 @@ abbrev pub numberGiven : Told → Option ℕ
 numberGiven told.Done = none
 numberGiven (told.Refused r) = some (numberOf r)
 
--- take: the number that is given, if one is; the block's number n and the count, where 01 says that they are returned
+-- take: the number that is given, if one is; the kind, the block's number n and the count, where 01 says that they are returned
 abbrev pub numberTaken : Taken → Option ℕ
 numberTaken taken.Waiting = none
 numberTaken (taken.Speech n k) = none
@@ -32,6 +34,14 @@ numberTaken (taken.Facch n k) = none
 numberTaken (taken.Refused r) = some (numberOf r)
 numberTaken (taken.Bad n k) = some 8
 numberTaken (taken.Tie n) = some 9
+
+abbrev pub kindTaken : Taken → Option Kind
+kindTaken taken.Waiting = none
+kindTaken (taken.Speech n k) = some kind.Speech
+kindTaken (taken.Facch n k) = some kind.Facch
+kindTaken (taken.Refused r) = none
+kindTaken (taken.Bad n k) = none
+kindTaken (taken.Tie n) = none
 
 abbrev pub blockTaken : Taken → Option ℕ
 blockTaken taken.Waiting = none

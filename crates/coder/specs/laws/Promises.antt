@@ -1,6 +1,7 @@
 -- The promises are kept: an entry that is given what it should be sends its block, and three altered bits are corrected.
 use mathlib.Core.Bool.{Bool, true, false}
 use mathlib.Core.List.{List, _++_}
+use mathlib.Core.Option.{none}
 use mathlib.Core.Path.{_≡_, refl, sym, ap, ap₂, _∙_, subst}
 use Prim.Native.Nat.{ℕ, _+_, _*_, _≤_, _<_, _^_}
 use native.Mathlib.Omega.{arith}
@@ -20,17 +21,32 @@ use Rattle.parity.specs.laws.Generators.{control-number, access-number, sch-num
 use Rattle.trellis.specs.Nearest.{disagreements}
 use Rattle.trellis.specs.Pairs.{coded}
 use Rattle.trellis.specs.laws.Pairs.{length-coded}
-use Rattle.coder.specs.Answers.{Answer, judged, answered, leaves}
+use Rattle.coder.specs.Answers.{Answer, numberGiven, judged, answered, leaves}
 use Rattle.coder.specs.Blocks.{controlU, controlBlock, sacchMessage, colour, accessU, accessBurst, schU, schBurst, speechBlock, speechU}
 use Rattle.coder.specs.Entries.{lengths, entry, speechSent, controlSent, sacchSent, accessSent, schSent}
-use Rattle.coder.specs.Received.{Hearing, blockHeard, speechHeard, verdict, hearing, hands, reception, speechReceived, controlReceived, sacchReceived, accessReceived, schReceived}
-use Rattle.coder.specs.Promises.{Given, altered, accepted, whole, found-bad, SpeechPromise, ControlPromise, SacchPromise, SchPromise, AccessPromise}
+use Rattle.coder.specs.Received.{numberHeard, countHeard, Hearing, blockHeard, speechHeard, verdict, hearing, hands, reception, speechReceived, controlReceived, sacchReceived, accessReceived, schReceived}
+use Rattle.coder.specs.Promises.{Given, altered, whole, Accepts, FindsBad, SpeechPromise, ControlPromise, SacchPromise, SchPromise, AccessPromise}
+use Rattle.coder.specs.declared.Heard.{Heard}
+use Rattle.coder.specs.declared.Heard.the-variants.{Good, Bad}
 use Rattle.coder.specs.declared.Told.{Told}
 use Rattle.coder.specs.declared.Told.the-variants.{Done}
 use Rattle.coder.specs.laws.Order.{sacch-bit}
 use Rattle.coder.specs.laws.Speech.{length-u}
 use Rattle.coder.specs.laws.SpeechRestored.{speech-bits, speech-count, speech-good}
 use Rattle.coder.specs.laws.Restored.{coloured, heard-bits, heard-count, heard-good, heard-bad}
+
+-- ---- the two answers, and what they are in 01's numbers and counts
+abbrev pub accepted : ℕ → List ℕ → Answer Heard
+accepted count bits = record { told = Good count; left = bits }
+
+abbrev pub found-bad : ℕ → List ℕ → Answer Heard
+found-bad count before = record { told = Bad count; left = before }
+
+accepts : (a : Answer Heard) (count : ℕ) (bits : List ℕ) → a ≡ accepted count bits → Accepts a count bits
+accepts a count bits e = (ap (λ (x : Answer Heard). numberHeard (x .told)) e, ap (λ (x : Answer Heard). countHeard (x .told)) e, ap (λ (x : Answer Heard). x .left) e)
+
+finds-bad : (a : Answer Heard) (count : ℕ) (before : List ℕ) → a ≡ found-bad count before → FindsBad a count before
+finds-bad a count before e = (ap (λ (x : Answer Heard). numberHeard (x .told)) e, ap (λ (x : Answer Heard). countHeard (x .told)) e, ap (λ (x : Answer Heard). x .left) e)
 
 -- ---- an entry that is given what it should be is done
 module _ (n m i : ℕ) (d c : List ℕ) (h : i ≤ 63) (g : Given n m d c) where
@@ -115,19 +131,21 @@ module _ (g : List ℕ) (i n m : ℕ) (short : n + length g + 4 ≤ 228) (block 
   fewer : disagreements (protected e) (coded (coloured g (digits (length g) i) d)) ≤ 3
   fewer = subst (λ (x : List ℕ). disagreements (protected e) x ≤ 3) is few
 
-  pub kept : (entry n m i d (block d) c .told ≡ Done)
-      × (reception m n i e (blockHeard g i n (protected e)) out ≡ accepted (altered protected (entry n m i d (block d) c .left) e) d)
+  pub kept : (numberGiven (entry n m i d (block d) c .told) ≡ none)
+      × Accepts (reception m n i e (blockHeard g i n (protected e)) out) (altered protected (entry n m i d (block d) c .left) e) d
   kept = (
-    ap (λ (a : Answer Told). a .told) sent,
-    comes-back g i n m short d e out (protected e) (gd .bits) (gd .reads) ge fewer h
-        ∙ ap (λ (x : List ℕ). accepted (disagreements (protected e) x) d) (sym is),
+    ap (λ (a : Answer Told). numberGiven (a .told)) sent,
+    accepts (reception m n i e (blockHeard g i n (protected e)) out) (altered protected (entry n m i d (block d) c .left) e) d
+        (comes-back g i n m short d e out (protected e) (gd .bits) (gd .reads) ge fewer h
+        ∙ ap (λ (x : List ℕ). accepted (disagreements (protected e) x) d) (sym is)),
   )
 
   pub kept-out : (j : ℕ) → j ≤ 63 → i < 2 ^ length g → j < 2 ^ length g → (j ≡ i → ⊥)
-      → reception m n j e (blockHeard g j n (protected e)) out ≡ found-bad (altered protected (entry n m i d (block d) c .left) e) out
+      → FindsBad (reception m n j e (blockHeard g j n (protected e)) out) (altered protected (entry n m i d (block d) c .left) e) out
   kept-out j hj li lj other =
-      stays-out g i n m short d e out (protected e) (gd .bits) (gd .reads) ge fewer j hj li lj other
-      ∙ ap (λ (x : List ℕ). found-bad (disagreements (protected e) x) out) (sym is)
+      finds-bad (reception m n j e (blockHeard g j n (protected e)) out) (altered protected (entry n m i d (block d) c .left) e) out
+      (stays-out g i n m short d e out (protected e) (gd .bits) (gd .reads) ge fewer j hj li lj other
+      ∙ ap (λ (x : List ℕ). found-bad (disagreements (protected e) x) out) (sym is))
 
 control-codes : (d : List ℕ) → length d ≡ 184 → Bits d → controlBlock d ≡ coded (coloured controlG (digits (length controlG) 0) d)
 unfolding controlBlock controlU
@@ -224,9 +242,10 @@ speech-promise d c e out gd ge few =
     let is = ap (λ (a : Answer Told). take 378 (a .left)) sent in
     let fewer = subst (λ (x : List ℕ). disagreements (take 378 e) x ≤ 3) is few in
     let heard = speech-hearing d e (gd .reads) (gd .bits) fewer in (
-      ap (λ (a : Answer Told). a .told) sent,
-      hears-good 456 260 0 e out (lit≤ tt) ge (speechHeard e) (take 182 d ++ drop 378 e) (altered (take 378) (entry 260 456 0 d (speechBlock d) c .left) e)
+      ap (λ (a : Answer Told). numberGiven (a .told)) sent,
+      accepts (reception 456 260 0 e (speechHeard e) out) (altered (take 378) (entry 260 456 0 d (speechBlock d) c .left) e) (take 182 d ++ drop 378 e)
+          (hears-good 456 260 0 e out (lit≤ tt) ge (speechHeard e) (take 182 d ++ drop 378 e) (altered (take 378) (entry 260 456 0 d (speechBlock d) c .left) e)
           (ap (λ (h : Hearing). h .good) heard)
           (ap (λ (h : Hearing). h .count) heard ∙ ap (disagreements (take 378 e)) (sym is))
-          (ap (λ (h : Hearing). h .bits) heard),
+          (ap (λ (h : Hearing). h .bits) heard)),
     )

@@ -18,12 +18,15 @@ use Rattle.coder.specs.Blocks.{speechBlock, controlBlock}
 use Rattle.coder.specs.Received.{Hearing}
 use Rattle.coder.specs.laws.Promises.{control-size, speech-size, control-hearing, speech-hearing}
 use Rattle.trellis.specs.Nearest.{differ, disagreements}
+use Rattle.stream.specs.Answers.{Answer, numberTaken, kindTaken, blockTaken, countTaken}
 use Rattle.stream.specs.Receiving.{Brought, vote, byKind, speechOf, facchOf, goodOrBad}
 use Rattle.stream.specs.Sending.{isFacch, isBlock, blockOf, flagOf, freshSender}
+use Rattle.stream.specs.declared.Taken.{Taken}
 use Rattle.stream.specs.declared.Taken.the-variants.{Speech, Facch}
 use Rattle.stream.specs.declared.receiver.Kind.{Kind}
 use Rattle.stream.specs.declared.receiver.Kind.the-variants as kind
-use Rattle.promise.specs.Promise.{Valid, Lesson, made, ownBits, ownFlags, protected, altered, flagsAltered, comesOut, heardAt, StreamPromise, BurstsMade, IdleHalves, Locality, NeverAThird}
+use Rattle.stream.specs.declared.receiver.Receiver.{Receiver}
+use Rattle.promise.specs.Promise.{Valid, Lesson, made, ownBits, ownFlags, protected, altered, flagsAltered, kindOf, bitsOut, saysAt, Brings, Says, heardAt, StreamPromise, BurstsMade, IdleHalves, Locality, NeverAThird}
 use Rattle.promise.specs.laws.Sent.{fresh-able, sent-bit, sent-flag, all-done, first-idle, last-idle}
 use Rattle.promise.specs.laws.Taken.{flag-in, brings-own, brings-nothing}
 
@@ -98,6 +101,42 @@ module _ (f : ℕ → ℕ) (bits : (i : ℕ) → f i ≤ 1) where
       let e : total 8 f + total 8 (λ i. differ 1 (f i)) ≡ total 8 (λ i. 1) =
       sym (total-add 8 f (λ i. differ 1 (f i))) ∙ total-same 8 (λ i. f i + differ 1 (f i)) (λ i. 1) (λ i l. differ-one (f i) (bits i)) in
       simp (le-ltb (total 8 f) 4 (omega (arith, e, h)), lt-ltb 4 (total 8 f) (omega (arith, e, h)))
+
+-- ---- what burst 4n+7 brings where block n comes back, and what that is in 01's values
+unfoldable comesOut : List ℕ → ℕ → ℕ → List ℕ → List ℕ → Brought
+comesOut d n count c out =
+    pick (isFacch (length d)) (record { told = Facch (record { 0 = n }) count; left = d ++ drop 184 out })
+    (record { told = Speech (record { 0 = n }) count; left = take 182 d ++ drop 378 c })
+
+-- an answer of one kind, in values
+module _ (a : Answer Taken Receiver) (n k : ℕ) (bytes : List ℕ) where
+  facch-brings : Says a (record { told = Facch (record { 0 = n }) k; left = bytes }) → Brings a kind.Facch n k bytes
+  facch-brings said = record {
+    number = ap numberTaken (said .0);
+    kind = ap kindTaken (said .0);
+    block = ap blockTaken (said .0);
+    count = ap countTaken (said .0);
+    left = said .1;
+  }
+
+  speech-brings : Says a (record { told = Speech (record { 0 = n }) k; left = bytes }) → Brings a kind.Speech n k bytes
+  speech-brings said = record {
+    number = ap numberTaken (said .0);
+    kind = ap kindTaken (said .0);
+    block = ap blockTaken (said .0);
+    count = ap countTaken (said .0);
+    left = said .1;
+  }
+
+module _ (d : List ℕ) (n k : ℕ) (c out : List ℕ) (a : Answer Taken Receiver) where
+  by-kind : (b : Bool) → Says a (pick b (record { told = Facch (record { 0 = n }) k; left = d ++ drop 184 out }) (record { told = Speech (record { 0 = n }) k; left = take 182 d ++ drop 378 c }))
+      → Brings a (pick b kind.Facch kind.Speech) n k (pick b (d ++ drop 184 out) (take 182 d ++ drop 378 c))
+  by-kind true said = facch-brings a n k (d ++ drop 184 out) said
+  by-kind false said = speech-brings a n k (take 182 d ++ drop 378 c) said
+
+  brings-block : Says a (comesOut d n k c out) → Brings a (kindOf d) n k (bitsOut d c out)
+  unfolding comesOut kindOf bitsOut
+  brings-block said = by-kind (isFacch (length d)) said
 
 -- ---- what was sent stands at block n's places
 false-true : false ≡ true → ⊥
@@ -194,4 +233,5 @@ stream-promise ds lesson lent ll rx out here n h few flags =
     let M : ℕ = 4 * length ds + 4 in
     let said = brings-own M (omega (arith, lesson .most)) rx out here n (omega (arith, h)) in
     let is = comes ds lesson lent ll n h rx (here .bits) (out (4 * n + 7)) few flags (isFacch (length (getD ds n []))) refl in
+    brings-block (getD ds n []) n (altered (getD ds n []) (made lent ds) rx n) (ownBits rx n) (out (4 * n + 7)) (saysAt rx out (4 * n + 7))
     (said .0 ∙ ap (λ (x : Brought). x .told) is, said .1 ∙ ap (λ (x : Brought). x .left) is)

@@ -15,7 +15,7 @@ use Rattle.bits.specs.laws.Tab.{at-left, at-right}
 use Rattle.burst.specs.Places.{eAt, placeAt, bitAt, hl, hu, cell, four}
 use Rattle.burst.specs.laws.Four.{cell-bit, cell-hl, cell-hu, length-four, four-at}
 use Rattle.burst.specs.laws.Places.{every-bit}
-use Rattle.stream.specs.Answers.{Answer}
+use Rattle.stream.specs.Answers.{Answer, numberGiven}
 use Rattle.stream.specs.Sending.{isFacch, blockOf, flagOf, freshSender, sentBursts, sentNext, sendAnswer, endBursts, endNext, endAnswer}
 use Rattle.stream.specs.declared.Told.{Told}
 use Rattle.stream.specs.declared.Told.the-variants.{Done}
@@ -151,13 +151,13 @@ pub all-done : (s : Sender) (lent : ℕ → List ℕ) → Lent lent → (ds : Li
 unfolding AllDone sendAll endBursts sentBursts
 all-done s lent ll [] a v =
     let done = last-call s lent ll a in
-    (ap (λ (x : Answer Told Sender). x .told) done, ap (λ (x : Answer Told Sender). length (x .left)) done ∙ length-four (zeros 456) 0 (s .last) (flagOf (s .facch)))
+    (ap (λ (x : Answer Told Sender). numberGiven (x .told)) done, ap (λ (x : Answer Told Sender). length (x .left)) done ∙ length-four (zeros 456) 0 (s .last) (flagOf (s .facch)))
 all-done s lent ll (d ∷ ds) a v =
     let done = call s lent ll d ds a v in
     let rest = all-done (sentNext s d) (λ j. lent (suc j)) (λ j. ll (suc j)) ds (able-next s lent ll d ds a v) (λ j r. v (suc j) (omega (arith, r))) in
     let l = length-four (blockOf d) (flagOf (isFacch (length d))) (s .last) (flagOf (s .facch)) in
     let sum = length-append (sentBursts s d) (sendAll (sentNext s d) (λ j. lent (suc j)) ds) in (
-      (ap (λ (x : Answer Told Sender). x .told) done, subst (λ (x : Answer Told Sender). AllDone (x .next) (λ j. lent (suc j)) ds) (sym done) (rest .0)),
+      (ap (λ (x : Answer Told Sender). numberGiven (x .told)) done, subst (λ (x : Answer Told Sender). AllDone (x .next) (λ j. lent (suc j)) ds) (sym done) (rest .0)),
       ap length (goes-on s lent ll d ds a v) ∙ sum ∙ omega (arith, l, rest .1),
     )
 

@@ -2,6 +2,7 @@
 use Prim.Native.Nat.{_-_}
 use Rattle.bits.specs.laws.Tab.{Filled, filled-none, filled-more, filled-all}
 use Rattle.coder.specs.Received.{speechDAt}
+use native.Mathlib.Omega.{arith}
 use borrow.Author.Needs.{needs}
 use Rattle.coder.proofs.speech.fill_d.Statement.{statement}
 use Rattle.coder.proofs.speech.fill_d.Tie as tie
@@ -21,7 +22,7 @@ loop-again : tie.Need-loop-again Inv-loop μ-loop
 loop-again c =
     let s = c .before .before .before .before .before .args in
     let l = c .before .before .loop in
-    filled-more (speechDAt (s .u .now)) 182 (l .j) (c .d-at .result) (l .d) (l .inv) (c .before .loop-test .taken) (c .d-at .ensures)
+    filled-more (speechDAt (s .u .now)) 182 (l .j) (c .d-at .result) (l .d) (l .inv) (let h = c .before .loop-test .taken in omega (arith, h)) (c .d-at .ensures)
 
 returns : tie.Need-returns Inv-loop μ-loop
 returns c =

@@ -1,6 +1,7 @@
 -- `coder::speech::fill_u` is right: it fills the places in turn, each with its bit.
 use mathlib.Core.Path.{sym, _∙_}
 use Prim.Native.Nat.{_-_}
+use native.Mathlib.Omega.{arith}
 use borrow.Author.Needs.{needs}
 use Rattle.bits.specs.laws.Tab.{Filled, filled-none, filled-more, filled-all}
 use Rattle.coder.specs.Blocks.{speechUAt}
@@ -22,7 +23,7 @@ loop-again : tie.Need-loop-again Inv-loop μ-loop
 loop-again c =
     let s = c .before .before .before .before .before .before .args in
     let l = c .before .before .loop in
-    filled-more (speechUAt (s .d .now) (s .p .now)) 189 (l .k) (c .u-at .result) (l .u) (l .inv) (c .before .loop-test .taken) (c .u-at .ensures)
+    filled-more (speechUAt (s .d .now) (s .p .now)) 189 (l .k) (c .u-at .result) (l .u) (l .inv) (let h = c .before .loop-test .taken in omega (arith, h)) (c .u-at .ensures)
 
 returns : tie.Need-returns Inv-loop μ-loop
 returns c =
@@ -37,7 +38,7 @@ fill-u-spec =
     Inv-loop
     μ-loop
     loop-holds
-    (λ c κs. let pre = c .before .before .before .before .before .pre in (c .loop-test .taken, pre .0, pre .1))
+    (λ c κs. let pre = c .before .before .before .before .before .pre in let h = c .loop-test .taken in (omega (arith, h), pre .0, pre .1))
     (λ c. search needs)
     (λ c. search needs)
     (λ c. search needs)
