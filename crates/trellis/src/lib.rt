@@ -1,4 +1,4 @@
-// The convolutional code: the printed table of pairs, coding over it (000, 3.1.2.2), and the nearest block (01, What the decoder answers).
+// The convolutional code (000, 3.1.2.2): the printed table of pairs, coding, and the nearest block (01, What the decoder answers).
 mod search;
 mod steps;
 
@@ -8,7 +8,7 @@ ghost use mathlib.Core.Path.{_≡_};
 ghost use Prim.Native.Nat.{_*_, _≤_, _<_};
 ghost use lib.ListN.{length};
 ghost use Rattle.bits.specs.Bits.{Bits};
-ghost use Rattle.trellis.specs.Pairs.{coded, pairOf};
+ghost use Rattle.trellis.specs.Pairs.{back, coded, first, pairOf, second};
 
 // The handbook's table: for each state of the register, 0 to 15, the pair c(2k) c(2k+1) for next bit 0 and for next bit 1.
 const PAIRS: [u8; 32] = [
@@ -70,26 +70,40 @@ pub fn pair(s: usize, b: usize) -> u8
     PAIRS[2 * s + b]
 }
 
-// A bit as a number that indexes.
-fn wide(b: u8) -> usize
-    ensures { λ r. ⌜ r ≡ b ⌝ }
+// u(k-j), where u(k) = 0 for k < 0
+fn back(u: &[u8], k: usize, j: usize) -> u8
+    requires { ⌜ k < length (now u) ⌝ }
+    ensures { λ r. ⌜ r ≡ back (now (u .entry)) k j ⌝ }
 {
-    b as usize
+    if k < j { 0 } else { u[k - j] }
 }
 
-// c(2k) = u(k) + u(k-3) + u(k-4),  c(2k+1) = u(k) + u(k-1) + u(k-3) + u(k-4)
+// c(2k) = u(k) + u(k-3) + u(k-4)
+fn first(u: &[u8], k: usize) -> u8
+    requires { ⌜ (k < length (now u)) × Bits (now u) ⌝ }
+    ensures { λ r. ⌜ r ≡ first (now (u .entry)) k ⌝ }
+{
+    back(u, k, 0) ^ back(u, k, 3) ^ back(u, k, 4)
+}
+
+// c(2k+1) = u(k) + u(k-1) + u(k-3) + u(k-4): u(k-1) more than c(2k), which is x
+fn second(u: &[u8], k: usize, x: u8) -> u8
+    requires { ⌜ (k < length (now u)) × (Bits (now u)) × (x ≡ first (now u) k) ⌝ }
+    ensures { λ r. ⌜ r ≡ second (now (u .entry)) k ⌝ }
+{
+    x ^ back(u, k, 1)
+}
+
+// The pairs of u, one after another. No pair waits for another, so LLVM makes many at once.
 pub fn code(u: &[u8], c: &mut [u8])
     requires { ⌜ (Bits (now u)) × (length (now c) ≡ 2 * length (now u)) ⌝ }
     ensures { λ _. ⌜ now (c .exit) ≡ coded (now (u .entry)) ⌝ }
 {
-    let mut state = 0;
     let mut k = 0;
     while k < u.len() {
-        let b = wide(u[k]);
-        let p = pair(state, b);
-        c[2 * k] = p / 2;
-        c[2 * k + 1] = p % 2;
-        state = 8 * b + state / 2;
+        let x = first(u, k);
+        c[2 * k] = x;
+        c[2 * k + 1] = second(u, k, x);
         k += 1;
     }
 }

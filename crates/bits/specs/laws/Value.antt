@@ -32,7 +32,7 @@ value-snoc (a ∷ w) b =
     let e : a * 2 ^ length (w ++ (b ∷ [])) ≡ 2 * (a * 2 ^ length w) = ap (λ (k : ℕ). a * 2 ^ k) n ∙ ap (λ (k : ℕ). a * k) (pow-succ' 2 (length w)) ∙ mul-left-comm a 2 (2 ^ length w) in
     omega (arith, e, value-snoc w b)
 
-xor-bits : (a b : ℕ) → a ≤ 1 → b ≤ 1 → bitXor a b ≡ sum a b
+pub xor-bits : (a b : ℕ) → a ≤ 1 → b ≤ 1 → bitXor a b ≡ sum a b
 xor-bits zero zero h l = refl
 xor-bits zero (suc zero) h l = refl
 xor-bits zero (suc (suc b)) h l = omega arith

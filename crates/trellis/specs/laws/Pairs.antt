@@ -1,16 +1,18 @@
--- The pairs by the register's state: what the coding loop needs.
+-- The pairs by their formulas, which the coding loop needs, and by the register's state, which the search needs.
 use mathlib.Core.Bool.{Bool, true, false}
 use mathlib.Core.List.{List}
 use mathlib.Core.Logic.{⊎-elim}
 use mathlib.Core.Path.{_≡_, sym, ap, _∙_}
 use Prim.Native.Nat.{ℕ, suc, _+_, _-_, _*_, _/_, _%_, _≤_, _<_}
 use native.Mathlib.Omega.{arith}
+use lib.Bits.{bitXor}
 use lib.Dec.{eqb}
 use lib.ListN.{length, getD}
 use borrow.Author.Tests.{lt-ltb, le-ltb, eq-eqb, ne-eqb}
 use Rattle.bits.specs.Bits.{Bits, pick}
 use Rattle.bits.specs.laws.Cases.{lt-or-le}
 use Rattle.bits.specs.laws.Tab.{length-tab}
+use Rattle.bits.specs.laws.Value.{xor-bits}
 use Rattle.trellis.specs.Pairs.{back, first, second, codedAt, coded, stateAt, pairOf}
 
 -- ---- what stands j places back
@@ -73,16 +75,34 @@ codedAt-bit u i = either (eqb (i % 2) 0)
     either true = omega (arith, first-lt u (i / 2))
     either false = omega (arith, second-lt u (i / 2))
 
+-- ---- a sum modulo 2 is made bit by bit
+sum-xor : (a b c : ℕ) → a ≤ 1 → b ≤ 1 → c ≤ 1 → bitXor (bitXor a b) c ≡ (a + b + c) % 2
+sum-xor a b c la lb lc =
+    let m : (a + b) % 2 ≤ 1 = omega arith in
+    let e : ((a + b) % 2 + c) % 2 ≡ (a + b + c) % 2 = omega arith in
+    ap (λ (x : ℕ). bitXor x c) (xor-bits a b la lb) ∙ xor-bits ((a + b) % 2) c m lc ∙ e
+
+pub first-xor : (u : List ℕ) → Bits u → (k : ℕ) → bitXor (bitXor (back u k 0) (back u k 3)) (back u k 4) ≡ first u k
+unfolding first
+first-xor u bu k = sum-xor (back u k 0) (back u k 3) (back u k 4) (back-bit u bu k 0) (back-bit u bu k 3) (back-bit u bu k 4)
+
+pub second-xor : (u : List ℕ) → Bits u → (k : ℕ) → bitXor (first u k) (back u k 1) ≡ second u k
+unfolding first second
+second-xor u bu k =
+    let a = back u k 0 in
+    let b = back u k 3 in
+    let c = back u k 4 in
+    let d = back u k 1 in
+    let m : (a + b + c) % 2 ≤ 1 = omega arith in
+    let e : ((a + b + c) % 2 + d) % 2 ≡ (a + d + b + c) % 2 = omega arith in
+    xor-bits ((a + b + c) % 2) d m (back-bit u bu k 1) ∙ e
+
 -- ---- the state
 pub state-start : (u : List ℕ) → stateAt u 0 ≡ 0
 unfolding stateAt
 state-start u = rw (back-early u 0 1 (omega arith), back-early u 0 2 (omega arith), back-early u 0 3 (omega arith), back-early u 0 4 (omega arith))
 
 module _ (u : List ℕ) (bu : Bits u) (k : ℕ) where
-  pub state-lt : stateAt u k < 16
-  unfolding stateAt
-  state-lt = omega (arith, back-bit u bu k 1, back-bit u bu k 2, back-bit u bu k 3, back-bit u bu k 4)
-
   pub state-next : stateAt u (k + 1) ≡ 8 * getD u k 0 + stateAt u k / 2
   unfolding stateAt
   state-next =
