@@ -23,17 +23,13 @@ fn power(degree: u32) -> u64
     1 << degree
 }
 
-// The next bit is brought down; where that makes a leading 1, the generator strikes it out.
-fn bring(generator: u64, top: u64, held: u64, bit: u64) -> u64
-    requires { ⌜ (top ≤ 2 ^ 62) × (held < top) × (bit ≤ 1) ⌝ }
-    ensures { λ r. ⌜ r ≡ bringN generator top held bit ⌝ }
+// The next bit is brought down. What then stands at D^degree, 0 or 1, is the quotient's next bit: so often the divisor is taken away.
+fn bring(generator: u64, degree: u32, held: u64, bit: u64) -> u64
+    requires { ⌜ (degree ≤ 62) × (generator < 2 ^ degree) × (held < 2 ^ degree) × (bit ≤ 1) ⌝ }
+    ensures { λ r. ⌜ r ≡ bringN generator (2 ^ degree) held bit ⌝ }
 {
     let brought = 2 * held + bit;
-    if brought < top {
-        brought
-    } else {
-        generator ^ (brought - top)
-    }
+    brought ^ ((power(degree) + generator) * (brought >> degree))
 }
 
 // What division of w by D^degree + generator leaves, as a number.
@@ -41,11 +37,10 @@ pub fn remainder(generator: u64, degree: u32, w: &[u8]) -> u64
     requires { ⌜ Divisible generator degree (now w) ⌝ }
     ensures { λ r. ⌜ r ≡ value (remainder (digits degree generator) (now (w .entry))) ⌝ }
 {
-    let top = power(degree);
     let mut held = 0;
     let mut i = 0;
     while i < w.len() {
-        let next = bring(generator, top, held, w[i] as u64);
+        let next = bring(generator, degree, held, w[i] as u64);
         held = next;
         i += 1;
     }

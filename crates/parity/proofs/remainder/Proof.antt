@@ -1,10 +1,10 @@
 -- `parity::remainder` is right: after i turns it holds what the first i bits, brought down one by one, leave.
-use mathlib.Core.Path.{_≡_, refl, sym, ap, _∙_, subst}
+use mathlib.Core.Path.{_≡_, refl, sym, ap, _∙_}
 use Prim.Native.Nat.{ℕ, _-_, _^_, _≤_, _<_}
 use native.Mathlib.Omega.{arith}
 use borrow.Author.Needs.{needs}
 use lib.ListN.{length, getD, take}
-use lib.Pow.{pow-mono, pow-pos}
+use lib.Pow.{pow-pos}
 use lib.Seq.{take-all}
 use Rattle.bits.specs.Bits.{digits}
 use Rattle.bits.specs.laws.Value.{length-digits, bits-digits, value-digits}
@@ -13,49 +13,45 @@ use Rattle.parity.proofs.remainder.Statement.{statement}
 use Rattle.parity.proofs.remainder.Tie as tie
 
 abbrev Inv-loop : tie.InvT-loop
-Inv-loop generator degree w top held₀ i₀ held i =
-    (top ≡ 2 ^ degree) × (i ≤ length w) × (held < top) × (held ≡ alongN generator top 0 (take i w))
+Inv-loop generator degree w held₀ i₀ held i = (i ≤ length w) × (held < 2 ^ degree) × (held ≡ alongN generator (2 ^ degree) 0 (take i w))
 
 abbrev μ-loop : tie.MeasureT-loop
-μ-loop generator degree w top held₀ i₀ held i = length w - i
+μ-loop generator degree w held₀ i₀ held i = length w - i
 
 loop-holds : tie.Need-loop-holds Inv-loop μ-loop
 unfolding alongN
-loop-holds c = (c .power .ensures, search needs, subst (λ (t : ℕ). 0 < t) (sym (c .power .ensures)) (pow-pos (c .before .before .args .degree)), refl)
+loop-holds c = (search needs, pow-pos (c .before .args .degree), refl)
 
 bring-requires : tie.Need-bring-requires Inv-loop μ-loop
 bring-requires c κs =
-    let start = c .before .before .before .before .before in
+    let start = c .before .before .before .before in
     let l = c .before .before .loop in
-    (subst (λ (t : ℕ). t ≤ 2 ^ 62) (sym (l .inv .0)) (pow-mono (start .pre .narrow)), l .inv .2, start .pre .bits (l .i))
+    (start .pre .narrow, start .pre .below, l .inv .1, start .pre .bits (l .i))
 
 loop-again : tie.Need-loop-again Inv-loop μ-loop
 loop-again c =
-    let start = c .before .before .before .before .before .before in
+    let start = c .before .before .before .before .before in
     let l = c .before .before .before .loop in
     let g = start .args .generator in
+    let n = start .args .degree in
     let w = start .args .w .now in
-    let top = c .before .before .before .before .power .result in
-    let lt : l .i < length w = omega arith in
-    let small : bringN g top (l .held) (getD w (l .i) 0) < top =
-    rw (l .inv .0) (bringN-lt g (start .args .degree) (l .held) (getD w (l .i) 0) (start .pre .below) (rw (l .inv .0) at (l .inv .2)) (start .pre .bits (l .i))) in (
-      l .inv .0,
+    let lt : l .i < length w = omega arith in (
       search needs,
-      rw (c .bring .ensures) small,
-      c .bring .ensures ∙ ap (λ (h : ℕ). bringN g top h (getD w (l .i) 0)) (l .inv .3) ∙ sym (alongN-more g top 0 w (l .i) lt),
+      rw (c .bring .ensures) (bringN-lt g n (l .held) (getD w (l .i) 0) (start .pre .below) (l .inv .1) (start .pre .bits (l .i))),
+      c .bring .ensures ∙ ap (λ (h : ℕ). bringN g (2 ^ n) h (getD w (l .i) 0)) (l .inv .2) ∙ sym (alongN-more g (2 ^ n) 0 w (l .i) lt),
     )
 
 returns : tie.Need-returns Inv-loop μ-loop
 returns c =
-    let start = c .before .before .before .before in
+    let start = c .before .before .before in
     let l = c .before .loop in
     let n = start .args .degree in
     let g = start .args .generator in
     let w = start .args .w .now in
     let long = length-digits n g in
-    l .inv .3
-    ∙ ap (alongN g (c .before .before .power .result) 0) (take-all (l .i) w (omega arith))
-    ∙ ap (λ (t : ℕ). alongN g t 0 w) (l .inv .0 ∙ ap (λ (k : ℕ). 2 ^ k) (sym long))
+    l .inv .2
+    ∙ ap (alongN g (2 ^ n) 0) (take-all (l .i) w (omega arith))
+    ∙ ap (λ (k : ℕ). alongN g (2 ^ k) 0 w) (sym long)
     ∙ ap (λ (x : ℕ). alongN x (2 ^ length (digits n g)) 0 w) (sym (value-digits n g (start .pre .below)))
     ∙ remainder-value (digits n g) w (rw long (start .pre .some)) (rw long (start .pre .long)) (bits-digits n g) (start .pre .bits)
 
@@ -65,7 +61,6 @@ remainder-spec =
     (tie.spec
     Inv-loop
     μ-loop
-    (λ c κs. c .before .pre .narrow)
     loop-holds
     (λ c. search needs)
     (λ c. omega (arith, c .shared-slice-known2 .given (c .before .before .loop .i)))

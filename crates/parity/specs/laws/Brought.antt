@@ -1,12 +1,13 @@
 -- The same remainder with the bits brought down one by one: what the loop of `parity::along` holds, as a list and as a number.
 use mathlib.Core.List.{List, [], _∷_, _++_, append-assoc, append-nil}
 use mathlib.Core.Logic.{⊎-elim}
-use mathlib.Core.Path.{_≡_, refl, sym, ap, _∙_, subst}
-use Prim.Native.Nat.{ℕ, zero, suc, _+_, _-_, _*_, _^_, _≤_, _<_}
-use native.Mathlib.Nat.{pow-succ'}
+use mathlib.Core.Path.{_≡_, refl, sym, ap, ap₂, _∙_, subst}
+use Prim.Native.Nat.{ℕ, zero, suc, _+_, _-_, _*_, _/_, _^_, _≤_, _<_}
+use native.Mathlib.Nat.{pow-succ', div-eq-of-lt}
 use native.Mathlib.Numerals.{add-one}
 use native.Mathlib.Omega.{arith}
-use lib.Bits.{bitXor, xor-lt}
+use lib.Arith.{digits-div}
+use lib.Bits.{bitXor, xor-block, xor-comm, xor-lt, xor-self, xor-zero-r}
 use lib.Dec.{ltb}
 use lib.ListN.{length, getD, take, drop, replicate, length-append, length-drop, take-append-drop}
 use lib.Seq.{append-snoc, length-take-le, take-suc}
@@ -97,6 +98,43 @@ unfolding bringN
 bring-high g top h b x e =
     let d : 2 * h + b - top ≡ x = omega arith in
     rw (d, le-ltb (2 * h + b) top (omega arith))
+
+pub times-bit : (m q : ℕ) → q ≤ 1 → m * q ≤ m
+times-bit m zero h = omega arith
+times-bit m (suc zero) h = omega arith
+times-bit m (suc (suc q)) h = let z : ⊥ = omega arith in absurd z
+
+-- ---- the quotient's next bit, 0 or 1, and so often the divisor taken away
+module _ (g k h b : ℕ) (lh : h < 2 ^ k) (lb : b ≤ 1) where
+  abbrev brought : ℕ
+  brought = 2 * h + b
+
+  quotient-0 : brought < 2 ^ k → brought / 2 ^ k ≡ 0
+  quotient-0 l = div-eq-of-lt l
+
+  quotient-1 : (x : ℕ) → brought ≡ 2 ^ k + x → x < 2 ^ k → brought / 2 ^ k ≡ 1
+  quotient-1 x e l = let s : brought ≡ 1 * 2 ^ k + x = omega arith in ap (λ (y : ℕ). y / 2 ^ k) s ∙ digits-div 1 l
+
+  pub quotient-bit : brought / 2 ^ k ≤ 1
+  quotient-bit =
+      ⊎-elim (λ (l : brought < 2 ^ k). rw (quotient-0 l) (omega arith))
+      (λ (l : 2 ^ k ≤ brought). rw (quotient-1 (brought - 2 ^ k) (omega arith) (omega arith)) (omega arith))
+      (lt-or-le brought (2 ^ k))
+
+  pub bring-times : g < 2 ^ k → bitXor brought ((2 ^ k + g) * (brought / 2 ^ k)) ≡ bringN g (2 ^ k) h b
+  bring-times lg =
+      ⊎-elim (λ (l : brought < 2 ^ k).
+      let z : (2 ^ k + g) * (brought / 2 ^ k) ≡ 0 = ap (λ (q : ℕ). (2 ^ k + g) * q) (quotient-0 l) ∙ omega arith in
+      ap (bitXor brought) z ∙ xor-zero-r brought ∙ bring-low g (2 ^ k) h b brought refl l)
+      (λ (l : 2 ^ k ≤ brought).
+      let x : ℕ = brought - 2 ^ k in
+      let lx : x < 2 ^ k = omega arith in
+      let e : brought ≡ 2 ^ k + x = omega arith in
+      let m : brought ≡ 1 * 2 ^ k + x = omega arith in
+      let one : (2 ^ k + g) * (brought / 2 ^ k) ≡ 1 * 2 ^ k + g = ap (λ (q : ℕ). (2 ^ k + g) * q) (quotient-1 x e lx) ∙ omega arith in
+      let off : bitXor 1 1 * 2 ^ k + bitXor x g ≡ bitXor x g = ap (λ (y : ℕ). y * 2 ^ k + bitXor x g) (xor-self 1) ∙ omega arith in
+      ap₂ bitXor m one ∙ xor-block k 1 1 x g lx lg ∙ off ∙ xor-comm x g ∙ bring-high g (2 ^ k) h b x e)
+      (lt-or-le brought (2 ^ k))
 
 bring-value : (g s : List ℕ) (b : ℕ) → 0 < length g → length s ≡ length g → Bits g → Bits s → b ≤ 1
     → value (bring g s b) ≡ bringN (value g) (2 ^ length g) (value s) b
