@@ -2,6 +2,7 @@ pub mod Answers
 pub mod Protected
 pub mod Blocks
 pub mod Speech
+pub mod Reordered
 pub mod Settled
 pub mod Order
 pub mod Heard

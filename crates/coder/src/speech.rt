@@ -9,6 +9,7 @@ ghost use Rattle.coder.specs.Blocks.{speechP, speechUAt, speechBlock};
 ghost use Rattle.parity.specs.Division.{speechG};
 ghost use Rattle.coder.specs.Received.{allOnes, speechDAt, speechHeard};
 ghost use Rattle.coder.specs.laws.Heard.{HandedOver};
+ghost use Rattle.coder.specs.laws.Reordered.{Reordered};
 
 // p(0), p(1), p(2): what the first 50 bits followed by ones leave.
 fn put_parity(d: &[u8], p: &mut [u8])
@@ -20,32 +21,27 @@ fn put_parity(d: &[u8], p: &mut [u8])
     bits::put_digits(parity::remainder(parity::SPEECH, 3, &w), p);
 }
 
-// u(k) = d(2k) and u(184-k) = d(2k+1) for k = 0..90, u(91+k) = p(k) for k = 0..2, u(185)..u(188) = 0.
-fn u_at(d: &[u8], p: &[u8], k: usize) -> u8
-    requires { ⌜ (k < 189) × (length (now d) ≡ 260) × (length (now p) ≡ 3) ⌝ }
-    ensures { λ r. ⌜ r ≡ speechUAt (now (d .entry)) (now (p .entry)) k ⌝ }
+// u(k) = d(2k) and u(184-k) = d(2k+1) for k = 0..90.
+fn reorder(d: &[u8], u: &mut [u8])
+    requires { ⌜ (length (now d) ≡ 260) × (length (now u) ≡ 189) ⌝ }
+    ensures { λ _. ⌜ Reordered (now (d .entry)) 91 (now (u .exit)) ⌝ }
 {
-    if k < 91 {
-        return d[2 * k];
+    let mut k = 0;
+    while k < 91 {
+        u[k] = d[2 * k];
+        u[184 - k] = d[2 * k + 1];
+        k += 1;
     }
-    if k < 94 {
-        return p[k - 91];
-    }
-    if k < 185 {
-        return d[2 * (184 - k) + 1];
-    }
-    0
 }
 
+// The same, u(91+k) = p(k) for k = 0..2, and u(185)..u(188) = 0.
 fn fill_u(d: &[u8], p: &[u8], u: &mut [u8])
     requires { ⌜ (length (now d) ≡ 260) × (length (now p) ≡ 3) × (length (now u) ≡ 189) ⌝ }
     ensures { λ _. ⌜ now (u .exit) ≡ tab 189 (speechUAt (now (d .entry)) (now (p .entry))) ⌝ }
 {
-    let mut k = 0;
-    while k < 189 {
-        u[k] = u_at(d, p, k);
-        k += 1;
-    }
+    reorder(d, u);
+    bits::copy(p, &mut u[91..94]);
+    bits::fill(0, &mut u[185..189]);
 }
 
 // c(0)..c(377) are the pairs of u, c(378+k) = d(182+k).
@@ -61,22 +57,15 @@ pub(crate) fn code(d: &[u8], c: &mut [u8])
     bits::copy(&d[182..260], &mut c[378..456]);
 }
 
-// d(2k) = u(k) and d(2k+1) = u(184-k).
-fn d_at(u: &[u8], j: usize) -> u8
-    requires { ⌜ (j < 182) × (length (now u) ≡ 189) ⌝ }
-    ensures { λ r. ⌜ r ≡ speechDAt (now (u .entry)) j ⌝ }
-{
-    if j % 2 == 0 { u[j / 2] } else { u[184 - j / 2] }
-}
-
-// The protected bits d(0)..d(181) out of u.
+// The protected bits d(0)..d(181) out of u: d(2k) = u(k) and d(2k+1) = u(184-k).
 fn fill_d(u: &[u8], d: &mut [u8])
     requires { ⌜ (length (now u) ≡ 189) × (length (now d) ≡ 182) ⌝ }
     ensures { λ _. ⌜ now (d .exit) ≡ tab 182 (speechDAt (now (u .entry))) ⌝ }
 {
     let mut j = 0;
-    while j < 182 {
-        d[j] = d_at(u, j);
+    while j < 91 {
+        d[2 * j] = u[j];
+        d[2 * j + 1] = u[184 - j];
         j += 1;
     }
 }

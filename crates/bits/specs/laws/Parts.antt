@@ -1,10 +1,11 @@
 -- A buffer of which one part after another is written anew: the parts make the whole.
 use mathlib.Core.List.{List, [], _++_, append-assoc, append-nil}
-use mathlib.Core.Path.{_≡_, sym, ap, ap₂, _∙_}
-use Prim.Native.Nat.{ℕ, _+_, _*_, _≤_}
+use mathlib.Core.Path.{_≡_, refl, sym, ap, ap₂, _∙_}
+use Prim.Native.Nat.{ℕ, _+_, _-_, _*_, _≤_, _<_}
 use native.Mathlib.Omega.{arith}
-use lib.ListN.{length, take, drop, length-append, length-drop, drop-of-length-le}
-use lib.Seq.{take-at, drop-at, length-take-le}
+use lib.ListN.{length, getD, take, drop, length-append, length-drop, drop-of-length-le}
+use lib.Seq.{take-at, drop-at, length-take-le, getD-take, getD-drop}
+use Rattle.bits.specs.laws.Tab.{at-left, at-right}
 
 -- what a lent part, the k bytes from a on, leaves when it comes back as y
 abbrev pub put : ℕ → ℕ → List ℕ → List ℕ → List ℕ
@@ -62,3 +63,24 @@ pub length-put : (e y : List ℕ) (a k : ℕ) → a + k ≤ length e → length 
 length-put e y a k h l =
     length-append (take a e) (y ++ drop k (drop a e))
     ∙ rw (length-append y (drop k (drop a e)), length-drop k (drop a e), length-drop a e, length-take-le a e (omega arith)) (omega (arith, l))
+
+-- ---- one place of what is left: before the part, in it, and behind it
+module _ (e y : List ℕ) (a k : ℕ) (h : a + k ≤ length e) (l : length y ≡ k) where
+  front : length (take a e) ≡ a
+  front = length-take-le a e (omega arith)
+
+  pub put-before : (i : ℕ) → i < a → getD (put a k y e) i 0 ≡ getD e i 0
+  put-before i lt = at-left (take a e) (y ++ drop k (drop a e)) i (rw front lt) ∙ getD-take a e i 0 lt
+
+  pub put-within : (j i : ℕ) → j < k → i ≡ a + j → getD (put a k y e) i 0 ≡ getD y j 0
+  put-within j i lt q = at-right (take a e) (y ++ drop k (drop a e)) a j i front q ∙ at-left y (drop k (drop a e)) j (rw l lt)
+
+  pub put-behind : (i : ℕ) → a + k ≤ i → getD (put a k y e) i 0 ≡ getD e i 0
+  put-behind i le =
+      let j : ℕ = i - (a + k) in
+      let q : a + (k + j) ≡ i = omega arith in
+      at-right (take a e) (y ++ drop k (drop a e)) a (k + j) i front (sym q)
+      ∙ at-right y (drop k (drop a e)) k j (k + j) l refl
+      ∙ getD-drop k (drop a e) j 0
+      ∙ getD-drop a e (k + j) 0
+      ∙ ap (λ (x : ℕ). getD e x 0) q

@@ -3,14 +3,15 @@ use mathlib.Core.Bool.{Bool, true, false}
 use mathlib.Core.List.{List, _++_}
 use mathlib.Core.Logic.{⊎-elim}
 use mathlib.Core.Path.{_≡_, refl, sym, ap, _∙_, subst}
-use Prim.Native.Nat.{ℕ, zero, suc, _+_, _≤_, _<_}
+use Prim.Native.Nat.{ℕ, zero, suc, _+_, _*_, _/_, _%_, _≤_, _<_}
 use native.Mathlib.Nat.{add-zero, zero-add, add-suc, suc-add, le-of-suc-le-suc, not-suc-le-zero, eq-or-lt-of-le}
 use native.Mathlib.Omega.{arith}
-use lib.Dec.{T}
+use lib.Dec.{T, eqb}
 use lib.ListN.{length, getD, set, length-set, List·getD-append, List·getD-eq-default}
 use lib.Seq.{ext-getD, getD-set-same, getD-set-other, getD-append-add}
 use borrow.Author.Count.{below-more}
-use Rattle.bits.specs.Bits.{Bits, tab, tabFrom, both, allBelow}
+use borrow.Author.Tests.{eq-eqb, ne-eqb}
+use Rattle.bits.specs.Bits.{Bits, pick, tab, tabFrom, both, allBelow}
 use Rattle.bits.specs.laws.Cases.{lt-or-le}
 
 -- ---- one computed test over a range gives the rule at each number
@@ -78,6 +79,25 @@ filled-more f n x v out inv l e = (
       (λ y lt. getD-set-other out x y v 0 (λ (q : y ≡ x). omega (arith, q, lt)) ∙ inv .2 y lt)
       (getD-set-same out x v 0 (omega (arith, inv .1)) ∙ e),
 )
+
+-- two places at a time: the even ones have f, the odd ones g
+pub even-place : (f g : ℕ → ℕ) (k : ℕ) → pick (eqb (2 * k % 2) 0) (f (2 * k / 2)) (g (2 * k / 2)) ≡ f k
+even-place f g k =
+    let e : 2 * k / 2 ≡ k = omega arith in
+    let z : 2 * k % 2 ≡ 0 = omega arith in
+    rw (eq-eqb (2 * k % 2) 0 z, e)
+
+pub odd-place : (f g : ℕ → ℕ) (k : ℕ) → pick (eqb ((2 * k + 1) % 2) 0) (f ((2 * k + 1) / 2)) (g ((2 * k + 1) / 2)) ≡ g k
+odd-place f g k =
+    let e : (2 * k + 1) / 2 ≡ k = omega arith in
+    rw (ne-eqb ((2 * k + 1) % 2) 0 (λ (q : (2 * k + 1) % 2 ≡ 0). omega arith), e)
+
+pub filled-pair : (f : ℕ → ℕ) (n k x y : ℕ) (out : List ℕ) → Filled f n (2 * k) out → 2 * k + 1 < n → x ≡ f (2 * k) → y ≡ f (2 * k + 1)
+    → Filled f n (2 * (k + 1)) (set (set out (2 * k) x) (2 * k + 1) y)
+filled-pair f n k x y out inv l ex ey =
+    let e : 2 * k + 1 + 1 ≡ 2 * (k + 1) = omega arith in
+    subst (λ (i : ℕ). Filled f n i (set (set out (2 * k) x) (2 * k + 1) y)) e
+    (filled-more f n (2 * k + 1) y (set out (2 * k) x) (filled-more f n (2 * k) x out inv (omega arith) ex) l ey)
 
 pub filled-all : (f : ℕ → ℕ) (n x : ℕ) (out : List ℕ) → Filled f n x out → n ≤ x → out ≡ tab n f
 filled-all f n x out inv l = is-tab n f out (inv .1) (λ k lt. inv .2 k (omega arith))

@@ -2,7 +2,7 @@
 use mathlib.Core.Bool.{Bool, true, false}
 use mathlib.Core.List.{List, _++_}
 use mathlib.Core.Path.{_≡_, refl, sym, ap, ap₂, _∙_, subst}
-use Prim.Native.Nat.{ℕ, _+_, _-_, _/_, _%_, _≤_}
+use Prim.Native.Nat.{ℕ, _+_, _-_, _*_, _/_, _%_, _≤_}
 use native.Mathlib.Omega.{arith}
 use lib.Bits.{bitXor, xor-zero-r}
 use lib.Dec.{eqb, lit<, lit≤}
@@ -11,7 +11,7 @@ use lib.Seq.{length-take-le, take-all}
 use Rattle.bits.specs.Bits.{Bits, pick, tab, digits, value, ones}
 use Rattle.bits.specs.laws.Parts.{put, put-two}
 use Rattle.bits.specs.laws.Sum.{bits-append, bits-take}
-use Rattle.bits.specs.laws.Tab.{length-tab, bits-tab}
+use Rattle.bits.specs.laws.Tab.{length-tab, bits-tab, even-place, odd-place}
 use Rattle.bits.specs.laws.Value.{length-digits}
 use Rattle.parity.specs.Asked.{Divisible}
 use Rattle.parity.specs.Division.{remainder, speechG}
@@ -21,6 +21,15 @@ use Rattle.trellis.specs.laws.Nearest.{nearest-is}
 use Rattle.coder.specs.Received.{allOnes, speechDAt, speechHeard, verdict, hands}
 use Rattle.coder.specs.laws.Heard.{HandedOver, bits-drop, value-ones}
 use Rattle.coder.specs.declared.Heard.the-variants.{Good, Bad}
+
+-- ---- d by twos: d(2k) = u(k) and d(2k+1) = u(184-k)
+pub d-even : (u : List ℕ) (k : ℕ) → speechDAt u (2 * k) ≡ getD u k 0
+unfolding speechDAt
+d-even u k = even-place (λ i. getD u i 0) (λ i. getD u (184 - i) 0) k
+
+pub d-odd : (u : List ℕ) (k : ℕ) → speechDAt u (2 * k + 1) ≡ getD u (184 - k) 0
+unfolding speechDAt
+d-odd u k = odd-place (λ i. getD u i 0) (λ i. getD u (184 - i) 0) k
 
 -- ---- 50 bits and 3
 pub laid-check : (d u e x y : List ℕ) → length d ≡ 182 → length e ≡ 53 → x ≡ take 50 d → y ≡ take 3 (drop 91 u) → put 50 3 y (put 0 50 x e) ≡ take 50 d ++ take 3 (drop 91 u)

@@ -1,13 +1,12 @@
 -- `trellis::code` is right: before bit k it has written the k pairs before, each by its two formulas.
-use mathlib.Core.Path.{_≡_, sym, _∙_, subst}
-use Prim.Native.Nat.{ℕ, _+_, _-_, _*_, _≤_, _<_}
+use mathlib.Core.Path.{sym, _∙_}
+use Prim.Native.Nat.{_+_, _-_, _*_, _≤_, _<_}
 use native.Mathlib.Omega.{arith}
 use borrow.Author.Needs.{needs}
-use mathlib.Core.List.{List}
-use lib.ListN.{length, set, length-set}
-use Rattle.trellis.specs.Pairs.{coded, codedAt, first, second}
+use lib.ListN.{length, length-set}
+use Rattle.trellis.specs.Pairs.{coded, codedAt}
 use Rattle.trellis.specs.laws.Pairs.{coded-even, coded-odd}
-use Rattle.bits.specs.laws.Tab.{Filled, filled-none, filled-more, filled-all}
+use Rattle.bits.specs.laws.Tab.{Filled, filled-none, filled-pair, filled-all}
 use Rattle.trellis.proofs.code.Statement.{statement}
 use Rattle.trellis.proofs.code.Tie as tie
 
@@ -16,18 +15,6 @@ Inv-loop u c₀ k₀ c k = (k ≤ length u) × Filled (codedAt u) (2 * length u)
 
 abbrev μ-loop : tie.MeasureT-loop
 μ-loop u c₀ k₀ c k = length u - k
-
--- a turn writes pair k
-turn : (u c : List ℕ) (k x y : ℕ) → k < length u → x ≡ first u k → y ≡ second u k → Filled (codedAt u) (2 * length u) (2 * k) c
-    → Filled (codedAt u) (2 * length u) (2 * (k + 1)) (set (set c (2 * k) x) (2 * k + 1) y)
-turn u c k x y h ex ey inv =
-    let n : ℕ = 2 * length u in
-    let j : 2 * k + 1 + 1 ≡ 2 * (k + 1) = omega arith in
-    subst (λ (i : ℕ). Filled (codedAt u) n i (set (set c (2 * k) x) (2 * k + 1) y)) j
-    (filled-more (codedAt u) n (2 * k + 1) y (set c (2 * k) x)
-    (filled-more (codedAt u) n (2 * k) x c inv (omega arith) (ex ∙ sym (coded-even u k)))
-    (omega arith)
-    (ey ∙ sym (coded-odd u k)))
 
 loop-holds : tie.Need-loop-holds Inv-loop μ-loop
 loop-holds c =
@@ -38,8 +25,12 @@ loop-again : tie.Need-loop-again Inv-loop μ-loop
 loop-again c =
     let u = c .before .before .before .before .before .before .args .u .now in
     let l = c .before .before .before .loop in
-    let lt : l .k < length u = omega arith in
-    (search needs, turn u (l .c) (l .k) (c .before .first .result) (c .second .result) lt (c .before .first .ensures) (c .second .ensures) (l .inv .1))
+    let k = l .k in
+    let lt : 2 * k + 1 < 2 * length u = omega arith in (
+      search needs,
+      filled-pair (codedAt u) (2 * length u) k (c .before .first .result) (c .second .result) (l .c) (l .inv .1) lt
+          (c .before .first .ensures ∙ sym (coded-even u k)) (c .second .ensures ∙ sym (coded-odd u k)),
+    )
 
 returns : tie.Need-returns Inv-loop μ-loop
 unfolding coded

@@ -8,10 +8,10 @@ use native.Mathlib.Omega.{arith}
 use lib.Bits.{bitXor}
 use lib.Dec.{eqb}
 use lib.ListN.{length, getD}
-use borrow.Author.Tests.{lt-ltb, le-ltb, eq-eqb, ne-eqb}
+use borrow.Author.Tests.{lt-ltb, le-ltb}
 use Rattle.bits.specs.Bits.{Bits, pick}
 use Rattle.bits.specs.laws.Cases.{lt-or-le}
-use Rattle.bits.specs.laws.Tab.{length-tab}
+use Rattle.bits.specs.laws.Tab.{length-tab, even-place, odd-place}
 use Rattle.bits.specs.laws.Value.{xor-bits}
 use Rattle.trellis.specs.Pairs.{back, first, second, codedAt, coded, stateAt, pairOf}
 
@@ -48,16 +48,11 @@ length-coded u = length-tab (2 * length u) (codedAt u)
 -- ---- 01's two formulas, by the index
 pub coded-even : (u : List ℕ) (k : ℕ) → codedAt u (2 * k) ≡ first u k
 unfolding codedAt
-coded-even u k =
-    let e : 2 * k / 2 ≡ k = omega arith in
-    let z : 2 * k % 2 ≡ 0 = omega arith in
-    rw (eq-eqb (2 * k % 2) 0 z, e)
+coded-even u k = even-place (first u) (second u) k
 
 pub coded-odd : (u : List ℕ) (k : ℕ) → codedAt u (2 * k + 1) ≡ second u k
 unfolding codedAt
-coded-odd u k =
-    let e : (2 * k + 1) / 2 ≡ k = omega arith in
-    rw (ne-eqb ((2 * k + 1) % 2) 0 (λ (q : (2 * k + 1) % 2 ≡ 0). omega arith), e)
+coded-odd u k = odd-place (first u) (second u) k
 
 first-lt : (u : List ℕ) (k : ℕ) → first u k < 2
 unfolding first

@@ -1,33 +1,39 @@
--- `coder::speech::fill_d` is right: it fills the places in turn, each with its bit of u.
-use Prim.Native.Nat.{_-_}
-use Rattle.bits.specs.laws.Tab.{Filled, filled-none, filled-more, filled-all}
-use Rattle.coder.specs.Received.{speechDAt}
+-- `coder::speech::fill_d` is right: it fills the places in turn, two at a time.
+use mathlib.Core.Path.{sym, _∙_}
+use Prim.Native.Nat.{_+_, _-_, _*_, _≤_, _<_}
 use native.Mathlib.Omega.{arith}
 use borrow.Author.Needs.{needs}
+use lib.ListN.{length-set}
+use Rattle.bits.specs.laws.Tab.{Filled, filled-none, filled-pair, filled-all}
+use Rattle.coder.specs.Received.{speechDAt}
+use Rattle.coder.specs.laws.SpeechHeard.{d-even, d-odd}
 use Rattle.coder.proofs.speech.fill_d.Statement.{statement}
 use Rattle.coder.proofs.speech.fill_d.Tie as tie
 
 abbrev Inv-loop : tie.InvT-loop
-Inv-loop u d₀ j₀ d j = Filled (speechDAt u) 182 j d
+Inv-loop u d₀ j₀ d j = (j ≤ 91) × Filled (speechDAt u) 182 (2 * j) d
 
 abbrev μ-loop : tie.MeasureT-loop
-μ-loop u d₀ j₀ d j = 182 - j
+μ-loop u d₀ j₀ d j = 91 - j
 
 loop-holds : tie.Need-loop-holds Inv-loop μ-loop
-loop-holds c =
-    let start = c .before .before in
-    filled-none (speechDAt (start .args .u .now)) 182 (start .args .d .now) (start .pre .1)
+loop-holds c = (search needs, filled-none (speechDAt (c .args .u .now)) 182 (c .args .d .now) (c .pre .1))
 
 loop-again : tie.Need-loop-again Inv-loop μ-loop
 loop-again c =
-    let s = c .before .before .before .before .before .args in
-    let l = c .before .before .loop in
-    filled-more (speechDAt (s .u .now)) 182 (l .j) (c .d-at .result) (l .d) (l .inv) (let h = c .before .loop-test .taken in omega (arith, h)) (c .d-at .ensures)
+    let u = c .before .before .before .before .args .u .now in
+    let l = c .before .before .before .loop in
+    let j = l .j in
+    let h = c .before .before .loop-test .taken in (
+      omega (arith, h),
+      filled-pair (speechDAt u) 182 j _ _ (l .d) (l .inv .1) (omega (arith, h)) (sym (d-even u j)) (sym (d-odd u j)),
+    )
 
 returns : tie.Need-returns Inv-loop μ-loop
 returns c =
     let l = c .before .loop in
-    filled-all (speechDAt (c .before .before .before .before .args .u .now)) 182 (l .j) (l .d) (l .inv) (c .loop-test .left)
+    let h = c .loop-test .left in
+    filled-all (speechDAt (c .before .before .args .u .now)) 182 (2 * l .j) (l .d) (l .inv .1) (omega (arith, h))
 
 pub fill-d-spec : {M : Type 1} → statement M
 fill-d-spec =
@@ -36,10 +42,16 @@ fill-d-spec =
     Inv-loop
     μ-loop
     loop-holds
-    (λ c κs. search needs)
     (λ c. search needs)
+    (λ c. search needs)
+    (λ c. search needs)
+    (λ c. search needs)
+    (λ c. search needs)
+    (λ c. search needs)
+    (λ c. search needs)
+    (λ c. simp length-set (omega arith))
     (λ c. search needs)
     (λ c. search needs)
     loop-again
-    (λ c. search needs)
+    (λ c. c .before .loop .inv .1 .1 ∙ sym (c .before .before .pre .1))
     returns)
