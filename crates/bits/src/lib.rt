@@ -1,8 +1,8 @@
 // Bytes that are bits: what every crate's refusals and filling loops stand on.
 ghost use mathlib.Core.Path.{_≡_};
 ghost use Prim.Native.Nat.{max, _≤_, _/_, _%_, _^_, _-_, _<_};
-ghost use lib.ListN.{length, replicate};
-ghost use Rattle.bits.specs.Bits.{largest, allBits, digits};
+ghost use lib.ListN.{length, getD, replicate};
+ghost use Rattle.bits.specs.Bits.{largest, allBits, digits, tab};
 
 // The larger of two bytes.
 fn larger(a: u8, b: u8) -> u8
@@ -72,6 +72,17 @@ pub fn fill(v: u8, out: &mut [u8])
     let mut k = 0;
     while k < out.len() {
         out[k] = v;
+        k += 1;
+    }
+}
+
+// The lowest bit of each byte, in its place.
+pub fn lowest(w: &mut [u8])
+    ensures { λ _. ⌜ now (w .exit) ≡ tab (length (now (w .entry))) (λ k. getD (now (w .entry)) k 0 % 2) ⌝ }
+{
+    let mut k = 0;
+    while k < w.len() {
+        w[k] = w[k] % 2;
         k += 1;
     }
 }

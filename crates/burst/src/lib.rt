@@ -3,13 +3,14 @@ mod places;
 
 use places::BITS;
 use places::PLACES;
+ghost use mathlib.Core.List.{_++_};
 ghost use mathlib.Core.Path.{_≡_};
 ghost use Prim.Native.Nat.{_+_, _*_, _%_, _≤_, _<_};
 ghost use lib.Dec.{ltb, eqb};
 ghost use lib.ListN.{length, getD};
 ghost use Rattle.bits.specs.Bits.{pick, tab, total};
 ghost use Rattle.burst.specs.laws.Held.{straight};
-ghost use Rattle.burst.specs.laws.Table.{unflagged};
+ghost use Rattle.burst.specs.laws.Table.{burstOfTwice, fourOfTwice, laid, placedIn};
 ghost use Rattle.burst.specs.Places.{burst, four, eAt, gathered, firstBurst, heldBit, hl, hu};
 
 // Blocks are counted by n and bursts by B (01, Bursts and streams), each in a type of its own.
@@ -24,50 +25,46 @@ pub fn first_burst(n: BlockNumber) -> BurstNumber
     BurstNumber(4 * n.0 as u32)
 }
 
-// What stands at e(x) but for the flags: bit n modulo 456, of block a at the even places and of block b at the odd ones.
-fn standing(n: usize, x: usize, a: &[u8], b: &[u8]) -> u8
-    requires { ⌜ (n < 912) × (length (now a) ≡ 456) × (length (now b) ≡ 456) ⌝ }
-    ensures { λ r. ⌜ r ≡ pick (eqb (x % 2) 0) (getD (now (a .entry)) (n % 456) 0) (getD (now (b .entry)) (n % 456) 0) ⌝ }
+// c, and c once more behind it.
+fn twice(c: &[u8], whole: &mut [u8])
+    requires { ⌜ length (now whole) ≡ length (now c) + length (now c) ⌝ }
+    ensures { λ _. ⌜ now (whole .exit) ≡ now (c .entry) ++ now (c .entry) ⌝ }
 {
-    let k = wrapped(n);
-    if x % 2 == 0 { a[k] } else { b[k] }
+    let n = c.len();
+    let m = whole.len();
+    bits::copy(c, &mut whole[0..n]);
+    bits::copy(c, &mut whole[n..m]);
 }
 
-// n modulo 456.
-fn wrapped(n: usize) -> usize
-    requires { ⌜ n < 912 ⌝ }
-    ensures { λ r. ⌜ (r ≡ n % 456) × (r < 456) ⌝ }
+// The bits of burst i modulo 4: at e(x) the one that the table has, 57 i further on, of block a where x is even and of block b where it
+// is odd. Both blocks stand twice, so that no bit is past the end.
+fn fill_bits(i: usize, a: &[u8], b: &[u8], e: &mut [u8])
+    requires { ⌜ (i < 4) × (length (now a) ≡ 912) × (length (now b) ≡ 912) × (length (now e) ≡ 116) ⌝ }
+    ensures { λ _. ⌜ now (e .exit) ≡ tab 116 (laid i (now (a .entry)) (now (b .entry))) ⌝ }
 {
-    if n < 456 { n } else { n - 456 }
+    let at = BITS;
+    let mut x = 0;
+    while x < 58 {
+        e[2 * x] = a[at[2 * x] as usize + 57 * i];
+        e[2 * x + 1] = b[at[2 * x + 1] as usize + 57 * i];
+        x += 1;
+    }
 }
 
-// One burst, number i modulo 4, in which block a with flag p begins and block b with flag q goes on.
+// One burst, in which block a with flag p begins and block b with flag q goes on; both blocks stand twice.
 fn fill(i: usize, a: &[u8], p: u8, b: &[u8], q: u8, e: &mut [u8])
-    requires { ⌜ (i < 4) × (length (now a) ≡ 456) × (length (now b) ≡ 456) × (length (now e) ≡ 116) ⌝ }
-    ensures { λ _. ⌜ now (e .exit) ≡ burst i (now (a .entry)) p (now (b .entry)) q ⌝ }
+    requires { ⌜ (i < 4) × (length (now a) ≡ 912) × (length (now b) ≡ 912) × (length (now e) ≡ 116) ⌝ }
+    ensures { λ _. ⌜ now (e .exit) ≡ burstOfTwice i (now (a .entry)) p (now (b .entry)) q ⌝ }
 {
     fill_bits(i, a, b, e);
     e[57] = q;
     e[58] = p;
 }
 
-// Its bits.
-fn fill_bits(i: usize, a: &[u8], b: &[u8], e: &mut [u8])
-    requires { ⌜ (i < 4) × (length (now a) ≡ 456) × (length (now b) ≡ 456) × (length (now e) ≡ 116) ⌝ }
-    ensures { λ _. ⌜ now (e .exit) ≡ tab 116 (unflagged i (now (a .entry)) (now (b .entry))) ⌝ }
-{
-    let at = BITS;
-    let mut x = 0;
-    while x < 116 {
-        e[x] = standing(at[x] as usize + 57 * i, x, a, b);
-        x += 1;
-    }
-}
-
 // Four bursts, each into its own part.
-pub fn fill_four(a: &[u8], p: u8, b: &[u8], q: u8, e: &mut [u8])
-    requires { ⌜ (length (now a) ≡ 456) × (length (now b) ≡ 456) × (length (now e) ≡ 464) ⌝ }
-    ensures { λ _. ⌜ now (e .exit) ≡ four (now (a .entry)) p (now (b .entry)) q ⌝ }
+fn fill_parts(a: &[u8], p: u8, b: &[u8], q: u8, e: &mut [u8])
+    requires { ⌜ (length (now a) ≡ 912) × (length (now b) ≡ 912) × (length (now e) ≡ 464) ⌝ }
+    ensures { λ _. ⌜ now (e .exit) ≡ fourOfTwice (now (a .entry)) p (now (b .entry)) q ⌝ }
 {
     fill(0, a, p, b, q, &mut e[0..116]);
     fill(1, a, p, b, q, &mut e[116..232]);
@@ -75,17 +72,39 @@ pub fn fill_four(a: &[u8], p: u8, b: &[u8], q: u8, e: &mut [u8])
     fill(3, a, p, b, q, &mut e[348..464]);
 }
 
-// The coded bits of one block out of its four bursts.
-pub fn gather_four(e: &[u8], c: &mut [u8])
-    requires { ⌜ (length (now e) ≡ 464) × (length (now c) ≡ 456) ⌝ }
-    ensures { λ _. ⌜ now (c .exit) ≡ gathered (now (e .entry)) ⌝ }
+// Four bursts, in which block a with flag p begins and block b with flag q goes on.
+pub fn fill_four(a: &[u8], p: u8, b: &[u8], q: u8, e: &mut [u8])
+    requires { ⌜ (length (now a) ≡ 456) × (length (now b) ≡ 456) × (length (now e) ≡ 464) ⌝ }
+    ensures { λ _. ⌜ now (e .exit) ≡ four (now (a .entry)) p (now (b .entry)) q ⌝ }
+{
+    let mut begins = [0u8; 912];
+    twice(a, &mut begins);
+    let mut goes_on = [0u8; 912];
+    twice(b, &mut goes_on);
+    fill_parts(&begins, p, &goes_on, q, e);
+}
+
+// The bits of a block, each from its place in the eight bursts.
+fn gather(bursts: &[u8], c: &mut [u8])
+    requires { ⌜ (length (now bursts) ≡ 928) × (length (now c) ≡ 456) ⌝ }
+    ensures { λ _. ⌜ now (c .exit) ≡ tab 456 (placedIn (now (bursts .entry))) ⌝ }
 {
     let at = PLACES;
     let mut k = 0;
     while k < 456 {
-        c[k] = e[at[k] as usize % 464];
+        c[k] = bursts[at[k] as usize];
         k += 1;
     }
+}
+
+// The coded bits of one block out of its four bursts, which serve as its first four and as its last four.
+pub fn gather_four(e: &[u8], c: &mut [u8])
+    requires { ⌜ (length (now e) ≡ 464) × (length (now c) ≡ 456) ⌝ }
+    ensures { λ _. ⌜ now (c .exit) ≡ gathered (now (e .entry)) ⌝ }
+{
+    let mut bursts = [0u8; 928];
+    twice(e, &mut bursts);
+    gather(&bursts, c);
 }
 
 // Where burst B stands among the eight that are held.
@@ -119,14 +138,10 @@ pub fn gather_eight(b: BurstNumber, held: &[u8], c: &mut [u8])
     requires { ⌜ (length (now held) ≡ 928) × (length (now c) ≡ 456) ⌝ }
     ensures { λ _. ⌜ now (c .exit) ≡ tab 456 (λ k. heldBit (now (held .entry)) (b .0 + k % 8) (eAt k)) ⌝ }
 {
-    let mut whole = [0u8; 928];
-    straighten((b.0 % 8) as usize, held, &mut whole);
-    let at = PLACES;
-    let mut k = 0;
-    while k < 456 {
-        c[k] = whole[at[k] as usize] % 2;
-        k += 1;
-    }
+    let mut bursts = [0u8; 928];
+    straighten((b.0 % 8) as usize, held, &mut bursts);
+    gather(&bursts, c);
+    bits::lowest(c);
 }
 
 // Where flag i of a block stands in its burst: hu in its first four bursts, hl in its last four.

@@ -59,13 +59,7 @@ fn earlier(s: usize, word: u16) -> usize
     requires { ⌜ s < 16 ⌝ }
     ensures { λ r. ⌜ (r ≡ from 8 s (word / 2 ^ ((16 - s) % 16) % 2)) × (r < 16) ⌝ }
 {
-    2 * (s % 8) + widened((word >> ((16 - s) % 16)) % 2)
-}
-
-fn widened(o: u16) -> usize
-    ensures { λ r. ⌜ r ≡ o ⌝ }
-{
-    o as usize
+    2 * (s % 8) + (word as usize >> ((16 - s) % 16)) % 2
 }
 
 // The walk back from state s after t pairs: it writes bit t - 1, and those before it.

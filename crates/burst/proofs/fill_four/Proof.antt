@@ -1,37 +1,28 @@
--- `burst::fill_four` is right: four parts, one after another, make the whole.
-use Rattle.burst.specs.laws.Four.{parts-four}
+-- `burst::fill_four` is right: of blocks that stand twice come the four bursts.
+use mathlib.Core.List.{List}
+use mathlib.Core.Path.{ap₂, _∙_}
+use Prim.Native.Nat.{ℕ}
+use Rattle.burst.specs.laws.Table.{fourOfTwice, four-twice}
 use borrow.Author.Needs.{needs}
 use Rattle.burst.proofs.fill_four.Statement.{statement}
 use Rattle.burst.proofs.fill_four.Tie as tie
 
 returns : tie.Need-returns
 returns c =
-    let start = c .before .before .before .before .before .before .before .before .before .before .before .before .before .before .before .before .before .before .before in
-    let f₁ = c .before .before .before .before .before .before .before .before .before .before .before .before .before .before .fill in
-    let f₂ = c .before .before .before .before .before .before .before .before .before .before .fill2 in
-    let f₃ = c .before .before .before .before .before .before .fill3 in
-    let f₄ = c .before .before .fill4 in
+    let start = c .before .before .before .before .before .before .before .before .before .before .before .before .before .before .before in
     let s = start .args in
-    parts-four (s .a .now) (s .p) (s .b .now) (s .q) (s .e .now) (f₁ .last .1 .1 .1 .1 .1 .0) (f₂ .last .1 .1 .1 .1 .1 .0) (f₃ .last .1 .1 .1 .1 .1 .0) (f₄ .last .1 .1 .1 .1 .1 .0)
-    (start .pre .2) (f₁ .ensures) (f₂ .ensures) (f₃ .ensures) (f₄ .ensures)
+    c .before .before .fill-parts .ensures
+    ∙ ap₂ (λ (a b : List ℕ). fourOfTwice a (s .p) b (s .q)) (c .before .before .before .before .before .before .before .before .before .before .twice .ensures) (c .before .before .before .before .before .before .before .twice2 .ensures)
+    ∙ four-twice (s .a .now) (s .p) (s .b .now) (s .q) (start .pre .0) (start .pre .1)
 
 pub fill-four-spec : {M : Type 1} → statement M
 fill-four-spec =
     tie.close
     (tie.spec
     (λ c. search needs)
-    (λ c. search needs)
-    (λ c. search needs)
     (λ c κs. search needs)
     (λ c. search needs)
-    (λ c. search needs)
-    (λ c. search needs)
     (λ c κs. search needs)
-    (λ c. search needs)
-    (λ c. search needs)
-    (λ c. search needs)
-    (λ c κs. search needs)
-    (λ c. search needs)
     (λ c. search needs)
     (λ c. search needs)
     (λ c κs. search needs)

@@ -10,7 +10,6 @@ use lib.ListN.{length, getD, length-append}
 use borrow.Author.Tests.{lt-ltb, le-ltb, eq-eqb, ne-eqb}
 use Rattle.bits.specs.Bits.{pick}
 use Rattle.bits.specs.laws.Cases.{lt-or-le}
-use Rattle.bits.specs.laws.Parts.{put, put-four}
 use Rattle.bits.specs.laws.Tab.{at-tab, length-tab, at-left, at-right}
 use Rattle.burst.specs.Places.{placeOf, eAt, placeAt, bitAt, cell, burst, four, hl, hu}
 use Rattle.burst.specs.laws.Places.{every-bit}
@@ -76,10 +75,3 @@ module _ (a : List ℕ) (p : ℕ) (b : List ℕ) (q : ℕ) where
       ∙ at-right (burst 2 a p b q) (burst 3 a p b q) 116 x (116 + x) (length-burst 2) refl
       ∙ in-burst 3 x h
   four-at (suc (suc (suc (suc i)))) x l h = let z : ⊥ = omega arith in absurd z
-
-  -- four parts of a buffer, each one burst, are the four bursts
-  pub parts-four : (e w x y z : List ℕ) → length e ≡ 464 → w ≡ burst 0 a p b q → x ≡ burst 1 a p b q → y ≡ burst 2 a p b q → z ≡ burst 3 a p b q
-      → put 348 116 z (put 232 116 y (put 116 116 x (put 0 116 w e))) ≡ four a p b q
-  unfolding four
-  parts-four e w x y z l ew ex ey ez =
-      put-four 116 e w x y z l (ap length ew ∙ length-burst 0) (ap length ex ∙ length-burst 1) (ap length ey ∙ length-burst 2) ∙ rw (ew, ex, ey, ez)

@@ -1,18 +1,19 @@
 -- The table of places by one computed test over its 456 entries, and the rule at each.
 use mathlib.Core.Bool.{Bool, true, false}
-use mathlib.Core.List.{List, [], _∷_}
+use mathlib.Core.List.{List, [], _∷_, _++_}
 use mathlib.Core.Logic.{⊎-elim}
-use mathlib.Core.Path.{_≡_, refl, ap, ap₂, _∙_}
-use Prim.Native.Nat.{ℕ, _+_, _*_, _/_, _%_, _≤_, _<_}
+use mathlib.Core.Path.{_≡_, refl, sym, ap, ap₂, _∙_}
+use Prim.Native.Nat.{ℕ, _+_, _-_, _*_, _/_, _%_, _≤_, _<_}
 use native.Mathlib.Omega.{arith}
-use lib.Dec.{T, eqb, eqb→eq}
+use lib.Dec.{T, eqb, eqb→eq, lit<}
 use lib.ListN.{length, getD, set, length-set}
 use lib.Seq.{getD-set-same, getD-set-other}
-use borrow.Author.Tests.{eqb-true, eqb-false}
+use borrow.Author.Tests.{eqb-true, eqb-false, eq-eqb, ne-eqb}
 use Rattle.bits.specs.Bits.{pick, both, tab}
 use Rattle.bits.specs.laws.Cases.{lt-or-le}
-use Rattle.bits.specs.laws.Tab.{below, both-left, both-right, is-tab, at-tab, length-tab}
-use Rattle.burst.specs.Places.{placeOf, eOf, eAt, placeAt, bitAt, cell, burst}
+use Rattle.bits.specs.laws.Parts.{put, put-four}
+use Rattle.bits.specs.laws.Tab.{below, both-left, both-right, is-tab, at-tab, length-tab, tab-same, at-left, at-right}
+use Rattle.burst.specs.Places.{placeOf, eOf, eAt, placeAt, bitAt, cell, burst, four, gatheredAt}
 use Rattle.burst.specs.laws.Places.{every-bit}
 
 unfoldable pub places : List ℕ
@@ -60,30 +61,38 @@ place-in k h =
     let l = every-bit k h .within in
     omega (arith, e, l)
 
--- in four bursts the last four stand where the first four do
-within : (y : ℕ) → y < 464 → y % 464 ≡ y
-within y h = omega (arith, h)
+-- what stands at the place of bit k in eight bursts
+unfoldable pub placedIn : List ℕ → ℕ → ℕ
+placedIn bursts k = getD bursts (116 * (k % 8) + eAt k) 0
 
-beyond : (y : ℕ) → y < 464 → (464 + y) % 464 ≡ y
-beyond y h = omega (arith, h)
+pub placed : (bursts : List ℕ) (k : ℕ) → k < 456 → getD bursts (getD places k 0) 0 ≡ placedIn bursts k
+unfolding placedIn
+placed bursts k h = ap (λ (x : ℕ). getD bursts x 0) (place-right k h)
 
-pub place-in-four : (k : ℕ) → k < 456 → getD places k 0 % 464 ≡ 116 * (k % 4) + eAt k
-place-in-four k h = ap (λ (x : ℕ). x % 464) (place-right k h) ∙ ⊎-elim early late (lt-or-le (k % 8) 4)
+-- ---- a list twice: an index past the first copy finds the second
+module _ (c : List ℕ) (n : ℕ) (l : length c ≡ n) where
+  pub twice-first : (k : ℕ) → k < n → getD (c ++ c) k 0 ≡ getD c k 0
+  twice-first k h = at-left c c k (omega (arith, l))
+
+  pub twice-second : (k i : ℕ) → i ≡ n + k → getD (c ++ c) i 0 ≡ getD c k 0
+  twice-second k i e = at-right c c n k i l e
+
+-- four bursts that stand twice are a block's first four and its last four
+pub placed-twice : (e : List ℕ) (k : ℕ) → length e ≡ 464 → k < 456 → placedIn (e ++ e) k ≡ gatheredAt e k
+unfolding placedIn gatheredAt
+placed-twice e k l h = ⊎-elim early late (lt-or-le (k % 8) 4)
   where
-    fits : 116 * (k % 4) + eAt k < 464
-    fits = let x = every-bit k h .within in omega (arith, x)
+    early : k % 8 < 4 → getD (e ++ e) (116 * (k % 8) + eAt k) 0 ≡ getD e (116 * (k % 4) + eAt k) 0
+    early f =
+        let r : k % 8 ≡ k % 4 = omega (arith, f) in
+        let x = every-bit k h .within in
+        twice-first e 464 l (116 * (k % 8) + eAt k) (omega (arith, f, x)) ∙ ap (λ (i : ℕ). getD e (116 * i + eAt k) 0) r
 
-    early : k % 8 < 4 → (116 * (k % 8) + eAt k) % 464 ≡ 116 * (k % 4) + eAt k
-    early l =
-        let r : k % 8 ≡ k % 4 = omega (arith, l) in
-        ap (λ (i : ℕ). (116 * i + eAt k) % 464) r ∙ within (116 * (k % 4) + eAt k) fits
-
-    late : 4 ≤ k % 8 → (116 * (k % 8) + eAt k) % 464 ≡ 116 * (k % 4) + eAt k
-    late l =
-        let e : k % 8 % 4 ≡ k % 4 = omega arith in
-        let f : k % 8 ≡ 4 + k % 8 % 4 = omega (arith, l) in
-        let s : 116 * (k % 8) + eAt k ≡ 464 + (116 * (k % 4) + eAt k) = omega (arith, e, f) in
-        ap (λ (i : ℕ). i % 464) s ∙ beyond (116 * (k % 4) + eAt k) fits
+    late : 4 ≤ k % 8 → getD (e ++ e) (116 * (k % 8) + eAt k) 0 ≡ getD e (116 * (k % 4) + eAt k) 0
+    late f =
+        let q : k % 8 % 4 ≡ k % 4 = omega arith in
+        let r : k % 8 ≡ 4 + k % 8 % 4 = omega (arith, f) in
+        twice-second e 464 l (116 * (k % 4) + eAt k) (116 * (k % 8) + eAt k) (omega (arith, q, r))
 
 -- ---- which bit stands at e(x) of the first burst, and 57 i further on in burst i
 unfoldable pub bitTable : List ℕ
@@ -126,15 +135,39 @@ bit-further i j =
     further (57 * (0 + 4 * (j % 2)) + 64 * (j / 2)) i ∙ ap (λ (x : ℕ). x % 456) e
 
 -- a burst's byte but for its flags
-unfoldable pub unflagged : ℕ → List ℕ → List ℕ → ℕ → ℕ
+unfoldable unflagged : ℕ → List ℕ → List ℕ → ℕ → ℕ
 unflagged i a b x = pick (eqb (placeAt x % 2) 0) (getD a (bitAt i (placeAt x)) 0) (getD b (bitAt i (placeAt x)) 0)
 
-pub stands : (i : ℕ) (a b : List ℕ) (x : ℕ) → x < 116
-    → pick (eqb (x % 2) 0) (getD a ((getD bitTable x 0 + 57 * i) % 456) 0) (getD b ((getD bitTable x 0 + 57 * i) % 456) 0) ≡ unflagged i a b x
-unfolding unflagged
-stands i a b x h =
-    let k : (getD bitTable x 0 + 57 * i) % 456 ≡ bitAt i (placeAt x) = ap (λ (n : ℕ). (n + 57 * i) % 456) (bit-right x h) ∙ bit-further i (placeAt x) in
-    ap₂ (λ (s n : ℕ). pick (eqb s 0) (getD a n 0) (getD b n 0)) (side-right x h) k
+-- the same out of blocks that stand twice
+unfoldable pub laid : ℕ → List ℕ → List ℕ → ℕ → ℕ
+laid i a b x = pick (eqb (x % 2) 0) (getD a (getD bitTable x 0 + 57 * i) 0) (getD b (getD bitTable x 0 + 57 * i) 0)
+
+pub laid-even : (i : ℕ) (a b : List ℕ) (k : ℕ) → laid i a b (2 * k) ≡ getD a (getD bitTable (2 * k) 0 + 57 * i) 0
+unfolding laid
+laid-even i a b k = let z : 2 * k % 2 ≡ 0 = omega arith in rw (eq-eqb (2 * k % 2) 0 z)
+
+pub laid-odd : (i : ℕ) (a b : List ℕ) (k : ℕ) → laid i a b (2 * k + 1) ≡ getD b (getD bitTable (2 * k + 1) 0 + 57 * i) 0
+unfolding laid
+laid-odd i a b k = rw (ne-eqb ((2 * k + 1) % 2) 0 (λ (z : (2 * k + 1) % 2 ≡ 0). omega arith))
+
+round : (m : ℕ) → 456 ≤ m → m < 912 → m % 456 ≡ m - 456
+round m h l = omega arith
+
+around : (c : List ℕ) (m : ℕ) → length c ≡ 456 → m < 912 → getD (c ++ c) m 0 ≡ getD c (m % 456) 0
+around c m l h =
+    ⊎-elim (λ (f : m < 456). let e : m % 456 ≡ m = omega arith in twice-first c 456 l m f ∙ ap (λ (k : ℕ). getD c k 0) (sym e))
+    (λ (f : 456 ≤ m). let e : m ≡ 456 + (m - 456) = omega arith in
+    twice-second c 456 l (m - 456) m e ∙ ap (λ (k : ℕ). getD c k 0) (sym (round m f h)))
+    (lt-or-le m 456)
+
+stands : (i : ℕ) (a b : List ℕ) → i < 4 → length a ≡ 456 → length b ≡ 456 → (x : ℕ) → x < 116 → laid i (a ++ a) (b ++ b) x ≡ unflagged i a b x
+unfolding laid unflagged
+stands i a b hi la lb x h =
+    let n : ℕ = getD bitTable x 0 + 57 * i in
+    let fits : n < 912 = let l = bit-in x h in omega (arith, l, hi) in
+    let k : n % 456 ≡ bitAt i (placeAt x) = ap (λ (m : ℕ). (m + 57 * i) % 456) (bit-right x h) ∙ bit-further i (placeAt x) in
+    ap₂ (pick (eqb (x % 2) 0)) (around a n la fits) (around b n lb fits)
+    ∙ ap₂ (λ (s m : ℕ). pick (eqb s 0) (getD a m 0) (getD b m 0)) (side-right x h) k
 
 -- the flags are set last
 module _ (i : ℕ) (a : List ℕ) (p : ℕ) (b : List ℕ) (q : ℕ) (e : List ℕ) (ee : e ≡ tab 116 (unflagged i a b)) where
@@ -161,6 +194,37 @@ module _ (i : ℕ) (a : List ℕ) (p : ℕ) (b : List ℕ) (q : ℕ) (e : List �
           ∙ getD-set-other e 57 x q 0 (eqb-false x 57 ef)
           ∙ ap (λ (w : List ℕ). getD w x 0) ee ∙ at-tab 116 (unflagged i a b) x h
 
-  pub flagged : set (set e 57 q) 58 p ≡ burst i a p b q
+  flagged : set (set e 57 q) 58 p ≡ burst i a p b q
   unfolding burst
   flagged = is-tab 116 (cell i a p b q) (set (set e 57 q) 58 p) (simp length-set e-long) at
+
+-- a burst out of blocks that stand twice
+unfoldable pub burstOfTwice : ℕ → List ℕ → ℕ → List ℕ → ℕ → List ℕ
+burstOfTwice i a p b q = set (set (tab 116 (laid i a b)) 57 q) 58 p
+
+burst-twice : (i : ℕ) (a : List ℕ) (p : ℕ) (b : List ℕ) (q : ℕ) → i < 4 → length a ≡ 456 → length b ≡ 456
+    → burstOfTwice i (a ++ a) p (b ++ b) q ≡ burst i a p b q
+unfolding burstOfTwice
+burst-twice i a p b q hi la lb =
+    flagged i a p b q (tab 116 (laid i (a ++ a) (b ++ b))) (tab-same 116 (laid i (a ++ a) (b ++ b)) (unflagged i a b) (stands i a b hi la lb))
+
+-- ---- four of them, each in its part of a buffer
+unfoldable pub fourOfTwice : List ℕ → ℕ → List ℕ → ℕ → List ℕ
+fourOfTwice a p b q = burstOfTwice 0 a p b q ++ (burstOfTwice 1 a p b q ++ (burstOfTwice 2 a p b q ++ burstOfTwice 3 a p b q))
+
+pub length-twice : (i : ℕ) (a : List ℕ) (p : ℕ) (b : List ℕ) (q : ℕ) → length (burstOfTwice i a p b q) ≡ 116
+unfolding burstOfTwice
+length-twice i a p b q = length-set (set (tab 116 (laid i a b)) 57 q) 58 p ∙ length-set (tab 116 (laid i a b)) 57 q ∙ length-tab 116 (laid i a b)
+
+pub parts-twice : (a : List ℕ) (p : ℕ) (b : List ℕ) (q : ℕ) (e w x y z : List ℕ) → length e ≡ 464
+    → w ≡ burstOfTwice 0 a p b q → x ≡ burstOfTwice 1 a p b q → y ≡ burstOfTwice 2 a p b q → z ≡ burstOfTwice 3 a p b q
+    → put 348 116 z (put 232 116 y (put 116 116 x (put 0 116 w e))) ≡ fourOfTwice a p b q
+unfolding fourOfTwice
+parts-twice a p b q e w x y z l ew ex ey ez =
+    put-four 116 e w x y z l (ap length ew ∙ length-twice 0 a p b q) (ap length ex ∙ length-twice 1 a p b q) (ap length ey ∙ length-twice 2 a p b q)
+    ∙ rw (ew, ex, ey, ez)
+
+pub four-twice : (a : List ℕ) (p : ℕ) (b : List ℕ) (q : ℕ) → length a ≡ 456 → length b ≡ 456 → fourOfTwice (a ++ a) p (b ++ b) q ≡ four a p b q
+unfolding fourOfTwice four
+four-twice a p b q la lb =
+    rw (burst-twice 0 a p b q (lit< tt) la lb, burst-twice 1 a p b q (lit< tt) la lb, burst-twice 2 a p b q (lit< tt) la lb, burst-twice 3 a p b q (lit< tt) la lb)
