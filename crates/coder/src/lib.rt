@@ -8,10 +8,12 @@ ghost use mathlib.Core.Path.{_≡_};
 ghost use Prim.Native.Nat.{ℕ};
 ghost use lib.Dec.{eqb, leb};
 ghost use lib.ListN.{length};
-ghost use Rattle.bits.specs.Bits.{allBits, both};
+ghost use Rattle.bits.specs.Bits.{allBits, both, digits};
 ghost use Rattle.coder.specs.Answers.{Meets, judged, numberOf};
-ghost use Rattle.coder.specs.Entries.{speechSent, controlSent, sacchSent, accessSent, schSent, unreached, trellisViewed};
-ghost use Rattle.coder.specs.Received.{speechReceived, controlReceived, sacchReceived, accessReceived, schReceived};
+ghost use Rattle.coder.specs.Entries.{entry, speechSent, controlSent, sacchSent, accessSent, schSent, unreached, trellisViewed};
+ghost use Rattle.coder.specs.Received.{blockHeard, reception, speechReceived, controlReceived, sacchReceived, accessReceived, schReceived};
+ghost use Rattle.coder.specs.laws.Blocks.{codedBlock};
+ghost use Rattle.coder.specs.laws.Protected.{Fits};
 ghost use Rattle.coder.specs.declared.Told.the-variants.{Refused};
 
 // Why a call is refused (01, Numbers given for a no).
@@ -75,6 +77,46 @@ fn judge(d: &[u8], reads: usize, out: usize, writes: usize, identity: u8) -> Tol
     Told::Done
 }
 
+// An entry for a block of n bits whose parity stands at its end: n bits to m, the identity added to the parity.
+fn send_block(
+    generator: u64,
+    degree: u32,
+    identity: u8,
+    n: usize,
+    m: usize,
+    d: &[u8],
+    c: &mut [u8],
+) -> Told
+    requires { ⌜ Fits generator degree n m ⌝ }
+    ensures { λ r. ⌜ Meets (entry n m identity (now (d .entry)) (codedBlock generator degree identity (now (d .entry))) (now (c .entry))) r (now (c .exit)) ⌝ }
+{
+    let told = judge(d, n, c.len(), m, identity);
+    if let Told::Done = told {
+        block::code(generator, degree, identity as u64, d, c);
+    }
+    told
+}
+
+// The same block received: m bits to n.
+fn receive_block(
+    generator: u64,
+    degree: u32,
+    identity: u8,
+    n: usize,
+    m: usize,
+    c: &[u8],
+    d: &mut [u8],
+) -> Heard
+    requires { ⌜ Fits generator degree n m ⌝ }
+    ensures { λ r. ⌜ Meets (reception m n identity (now (c .entry)) (blockHeard (digits degree generator) identity n (now (c .entry))) (now (d .entry))) r (now (d .exit)) ⌝ }
+{
+    let told = judge(c, m, d.len(), n, identity);
+    match told {
+        Told::Done => block::read(generator, degree, identity as u64, c, d),
+        Told::Refused(why) => Heard::Refused(why),
+    }
+}
+
 // Speech block: 260 bits to 456.
 pub fn send_speech(d: &[u8], c: &mut [u8]) -> Told
     ensures { λ r. ⌜ Meets (speechSent (now (d .entry)) (now (c .entry))) r (now (c .exit)) ⌝ }
@@ -90,11 +132,7 @@ pub fn send_speech(d: &[u8], c: &mut [u8]) -> Told
 pub fn send_control(d: &[u8], c: &mut [u8]) -> Told
     ensures { λ r. ⌜ Meets (controlSent (now (d .entry)) (now (c .entry))) r (now (c .exit)) ⌝ }
 {
-    let told = judge(d, 184, c.len(), 456, 0);
-    if let Told::Done = told {
-        block::code(parity::CONTROL, 40, 0, d, c);
-    }
-    told
+    send_block(parity::CONTROL, 40, 0, 184, 456, d, c)
 }
 
 // SACCH message: 184 bits to four bursts, 464.
@@ -112,22 +150,14 @@ pub fn send_sacch(d: &[u8], e: &mut [u8]) -> Told
 pub fn send_access(identity: u8, d: &[u8], e: &mut [u8]) -> Told
     ensures { λ r. ⌜ Meets (accessSent identity (now (d .entry)) (now (e .entry))) r (now (e .exit)) ⌝ }
 {
-    let told = judge(d, 8, e.len(), 36, identity);
-    if let Told::Done = told {
-        block::code(parity::ACCESS, 6, identity as u64, d, e);
-    }
-    told
+    send_block(parity::ACCESS, 6, identity, 8, 36, d, e)
 }
 
 // SCH: 25 bits to 78.
 pub fn send_sch(d: &[u8], e: &mut [u8]) -> Told
     ensures { λ r. ⌜ Meets (schSent (now (d .entry)) (now (e .entry))) r (now (e .exit)) ⌝ }
 {
-    let told = judge(d, 25, e.len(), 78, 0);
-    if let Told::Done = told {
-        block::code(parity::SCH, 10, 0, d, e);
-    }
-    told
+    send_block(parity::SCH, 10, 0, 25, 78, d, e)
 }
 
 // Speech block received: 456 bits to 260.
@@ -145,11 +175,7 @@ pub fn receive_speech(c: &[u8], d: &mut [u8]) -> Heard
 pub fn receive_control(c: &[u8], d: &mut [u8]) -> Heard
     ensures { λ r. ⌜ Meets (controlReceived (now (c .entry)) (now (d .entry))) r (now (d .exit)) ⌝ }
 {
-    let told = judge(c, 456, d.len(), 184, 0);
-    match told {
-        Told::Done => block::read(parity::CONTROL, 40, 0, c, d),
-        Told::Refused(why) => Heard::Refused(why),
-    }
+    receive_block(parity::CONTROL, 40, 0, 184, 456, c, d)
 }
 
 // SACCH message received: four bursts, 464 bits, to 184.
@@ -167,22 +193,14 @@ pub fn receive_sacch(e: &[u8], d: &mut [u8]) -> Heard
 pub fn receive_access(identity: u8, e: &[u8], d: &mut [u8]) -> Heard
     ensures { λ r. ⌜ Meets (accessReceived identity (now (e .entry)) (now (d .entry))) r (now (d .exit)) ⌝ }
 {
-    let told = judge(e, 36, d.len(), 8, identity);
-    match told {
-        Told::Done => block::read(parity::ACCESS, 6, identity as u64, e, d),
-        Told::Refused(why) => Heard::Refused(why),
-    }
+    receive_block(parity::ACCESS, 6, identity, 8, 36, e, d)
 }
 
 // SCH received: 78 bits to 25.
 pub fn receive_sch(e: &[u8], d: &mut [u8]) -> Heard
     ensures { λ r. ⌜ Meets (schReceived (now (e .entry)) (now (d .entry))) r (now (d .exit)) ⌝ }
 {
-    let told = judge(e, 78, d.len(), 25, 0);
-    match told {
-        Told::Done => block::read(parity::SCH, 10, 0, e, d),
-        Told::Refused(why) => Heard::Refused(why),
-    }
+    receive_block(parity::SCH, 10, 0, 25, 78, e, d)
 }
 
 // Trellis view: 2t received bits, t from 0 to 228, to the fewest disagreements of any t bits that end in each state.

@@ -9,9 +9,10 @@ ghost use Prim.Native.Nat.{_+_, _≤_, _<_};
 ghost use lib.Dec.{eqb, leb};
 ghost use lib.ListN.{length};
 ghost use Rattle.bits.specs.Bits.{allBits, both};
-ghost use Rattle.burst.specs.Places.{kept, own};
+ghost use Rattle.burst.specs.Places.{kept, own, flagCount};
 ghost use Rattle.stream.specs.Answers.{Meets};
 ghost use Rattle.stream.specs.Receiving.{freshReceiver, takeJudged, vote, byKind, brought, answered, takeAnswer};
+ghost use Rattle.stream.specs.laws.Receiving.{asTaken};
 ghost use Rattle.stream.specs.declared.receiver.Kind.the-variants.{Speech, Facch};
 
 // The number of the next burst, and the last eight bursts: burst B stands at 116 (B mod 8).
@@ -78,20 +79,48 @@ fn vote(ones: u32) -> Kind
     Kind::Neither
 }
 
+// The coded bits of block n.
+fn own(n: u16, held: &[u8], c: &mut [u8])
+    requires { ⌜ (length (now held) ≡ 928) × (length (now c) ≡ 456) ⌝ }
+    ensures { λ _. ⌜ now (c .exit) ≡ own (now (held .entry)) n ⌝ }
+{
+    burst::gather_eight(burst::first_burst(BlockNumber(n)), held, c);
+}
+
+// The kind that the eight flags of block n say.
+fn kind_of(n: u16, held: &[u8]) -> Kind
+    requires { ⌜ length (now held) ≡ 928 ⌝ }
+    ensures { λ k. ⌜ k ≡ vote (flagCount (now (held .entry)) n) ⌝ }
+{
+    vote(burst::count_flags(burst::first_burst(BlockNumber(n)), held))
+}
+
+// What coder's entry says of block n, as take says it.
+fn say(facch: bool, n: u16, heard: coder::Heard) -> Taken
+    ensures { λ r. ⌜ r ≡ asTaken facch n heard ⌝ }
+{
+    match heard {
+        coder::Heard::Good(count) => {
+            if facch {
+                Taken::Facch(BlockNumber(n), count)
+            } else {
+                Taken::Speech(BlockNumber(n), count)
+            }
+        }
+        coder::Heard::Bad(count) => Taken::Bad(BlockNumber(n), count),
+        // never: the block is 456 bits, and there is room for it
+        coder::Heard::Refused(_) => Taken::Waiting,
+    }
+}
+
 // Block n as speech.
 fn speech(n: u16, held: &[u8], d: &mut [u8]) -> Taken
     requires { ⌜ (length (now held) ≡ 928) × (length (now d) ≡ 260) ⌝ }
     ensures { λ r. ⌜ (r ≡ byKind Speech n (own (now (held .entry)) n) (now (d .entry)) .told) × (now (d .exit) ≡ byKind Speech n (own (now (held .entry)) n) (now (d .entry)) .left) ⌝ }
 {
     let mut c = [0u8; 456];
-    burst::gather_eight(burst::first_burst(BlockNumber(n)), held, &mut c);
-    let heard = coder::receive_speech(&c, d);
-    match heard {
-        coder::Heard::Good(count) => Taken::Speech(BlockNumber(n), count),
-        coder::Heard::Bad(count) => Taken::Bad(BlockNumber(n), count),
-        // never: c is 456 bits, and d is 260 bytes
-        coder::Heard::Refused(_) => Taken::Waiting,
-    }
+    own(n, held, &mut c);
+    say(false, n, coder::receive_speech(&c, d))
 }
 
 // Block n as FACCH; the last 76 bytes are left.
@@ -100,14 +129,8 @@ fn facch(n: u16, held: &[u8], d: &mut [u8]) -> Taken
     ensures { λ r. ⌜ (r ≡ byKind Facch n (own (now (held .entry)) n) (now (d .entry)) .told) × (now (d .exit) ≡ byKind Facch n (own (now (held .entry)) n) (now (d .entry)) .left) ⌝ }
 {
     let mut c = [0u8; 456];
-    burst::gather_eight(burst::first_burst(BlockNumber(n)), held, &mut c);
-    let heard = coder::receive_control(&c, &mut d[0..184]);
-    match heard {
-        coder::Heard::Good(count) => Taken::Facch(BlockNumber(n), count),
-        coder::Heard::Bad(count) => Taken::Bad(BlockNumber(n), count),
-        // never: c is 456 bits, and the part of d is 184 bytes
-        coder::Heard::Refused(_) => Taken::Waiting,
-    }
+    own(n, held, &mut c);
+    say(true, n, coder::receive_control(&c, &mut d[0..184]))
 }
 
 // Block n, of the kind that its flags say.
@@ -115,8 +138,7 @@ fn bring(n: u16, held: &[u8], d: &mut [u8]) -> Taken
     requires { ⌜ (length (now held) ≡ 928) × (length (now d) ≡ 260) ⌝ }
     ensures { λ r. ⌜ (r ≡ brought (now (held .entry)) n (now (d .entry)) .told) × (now (d .exit) ≡ brought (now (held .entry)) n (now (d .entry)) .left) ⌝ }
 {
-    let kind = vote(burst::count_flags(burst::first_burst(BlockNumber(n)), held));
-    match kind {
+    match kind_of(n, held) {
         Kind::Speech => speech(n, held, d),
         Kind::Facch => facch(n, held, d),
         Kind::Neither => Taken::Tie(BlockNumber(n)),

@@ -1,48 +1,24 @@
--- `coder::receive_control` is right: where every test holds, the nearest block is read and judged; else the buffer stands as before.
+-- `coder::receive_control` is right: the number in the code is its generator.
 use mathlib.Core.Path.{refl}
 use borrow.Author.Needs.{needs}
 use lib.Dec.{lit<, lit≤}
-use Rattle.parity.specs.Division.{controlG}
 use Rattle.parity.specs.laws.Generators.{control-number}
-use Rattle.coder.specs.Received.{blockHeard, controlReceived}
-use Rattle.coder.specs.laws.Answers.{done-ready}
-use Rattle.coder.specs.laws.Heard.{readable, reception-done, reception-refused, same-hearing}
+use Rattle.coder.specs.Received.{controlReceived}
+use Rattle.coder.specs.laws.Heard.{same-reception}
 use Rattle.coder.proofs.receive_control.Statement.{statement}
 use Rattle.coder.proofs.receive_control.Tie as tie
-
-read-requires : tie.Need-read-requires
-read-requires c κs =
-    let s = c .before .before .before .before .before .before .args in
-    let j = c .before .before .before .judge in
-    let ready = done-ready (s .c .now) (s .d .now) 456 184 0 (j .result) (j .ensures) (c .before .enum-told .given .1) in
-    readable 40 (lit< tt) (lit≤ tt) (lit< tt) (lit< tt) (lit≤ tt) refl ready
 
 returns : tie.Need-returns
 unfolding controlReceived
 returns c =
-    let s = c .before .before .before .before .before .before .before .before .before .args in
-    let j = c .before .before .before .before .before .before .judge in
-    let told = c .before .before .before .before .enum-told .given .1 in
-    let ready = done-ready (s .c .now) (s .d .now) 456 184 0 (j .result) (j .ensures) told in
-    let read = c .before .before .read in
-    reception-done 456 184 0 (s .c .now) (s .d .now) (blockHeard controlG 0 184 (s .c .now)) (j .result) (j .ensures) (read .result) (read .last .1 .1 .1 .1 .0) told
-    (same-hearing control-number (ready .writes) (s .c .now) 0 (s .d .now) (read .result) (read .last .1 .1 .1 .1 .0) (read .ensures))
-
-returns-2 : tie.Need-returns-2
-unfolding controlReceived
-returns-2 c =
     let s = c .before .before .before .before .before .before .args in
-    let j = c .before .before .before .judge in
-    reception-refused 456 184 0 (s .c .now) (s .d .now) (blockHeard controlG 0 184 (s .c .now)) (j .result) (j .ensures) (c .before .told .given .0 .0) (c .before .told .given .1)
+    let heard = c .before .before .receive-block in
+    same-reception control-number 184 456 0 (s .c .now) (s .d .now) (heard .result) (heard .last .1 .1 .1 .1 .1 .1 .0) (heard .ensures)
 
 pub receive-control-spec : {M : Type 1} → statement M
 receive-control-spec =
     tie.close
     (tie.spec
-    (λ c κs. search needs)
+    (λ c κs. record { some = lit≤ tt; narrow = lit≤ tt; below = lit< tt; short = lit≤ tt; long = refl })
     (λ c. search needs)
-    read-requires
-    (λ c. search needs)
-    (λ c. search needs)
-    returns
-    returns-2)
+    returns)

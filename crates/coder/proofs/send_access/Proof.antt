@@ -1,40 +1,25 @@
--- `coder::send_access` is right: where every test holds, the access burst is written; else the buffer stands as before.
+-- `coder::send_access` is right: what it sends of bits is the access burst under its identity.
 use mathlib.Core.Path.{refl}
 use borrow.Author.Needs.{needs}
 use lib.Dec.{lit<, lit≤}
-use Rattle.coder.specs.laws.Blocks.{access-is}
-use Rattle.coder.specs.laws.Protected.{codable}
 use Rattle.coder.specs.Blocks.{accessBurst}
 use Rattle.coder.specs.Entries.{accessSent}
-use Rattle.coder.specs.laws.Answers.{done-ready, entry-done, entry-refused}
+use Rattle.coder.specs.laws.Blocks.{codedBlock, access-is, same-sent}
 use Rattle.coder.proofs.send_access.Statement.{statement}
 use Rattle.coder.proofs.send_access.Tie as tie
-
-code-requires : tie.Need-code-requires
-code-requires c κs =
-    let s = c .before .before .before .before .before .before .args in
-    let j = c .before .before .before .judge in
-    let ready = done-ready (s .d .now) (s .e .now) 8 36 (s .identity) (j .result) (j .ensures) (c .before .enum-told .given .1) in
-    codable 6 (lit< tt) (lit≤ tt) (lit< tt) (lit≤ tt) refl ready
 
 returns : tie.Need-returns
 unfolding accessSent
 returns c =
-    let s = c .before .before .before .before .before .before .before .before .before .args in
-    let j = c .before .before .before .before .before .before .judge in
-    let told = c .before .before .before .before .enum-told .given .1 in
-    let ready = done-ready (s .d .now) (s .e .now) 8 36 (s .identity) (j .result) (j .ensures) told in
-    let written = c .before .before .code in
-    entry-done 8 36 (s .identity) (s .d .now) (accessBurst (s .identity) (s .d .now)) (s .e .now) (j .result) (j .ensures) (written .last .1 .1 .1 .1 .0) told (access-is (s .d .now) (ready .bits) (s .identity) (ready .identity) (written .last .1 .1 .1 .1 .0) (written .ensures))
-
-returns-2 : tie.Need-returns-2
-unfolding accessSent
-returns-2 c =
-    let s = c .before .before .before .before .before .args in
-    let j = c .before .before .judge in
-    entry-refused 8 36 (s .identity) (s .d .now) (accessBurst (s .identity) (s .d .now)) (s .e .now) (j .result) (j .ensures) (c .enum-told2 .given .0 .0) (c .enum-told2 .given .1)
+    let s = c .before .before .before .before .before .before .args in
+    let done = c .before .before .send-block in
+    same-sent 8 36 (s .identity) (s .d .now) (codedBlock 0b101111 6 (s .identity) (s .d .now)) (accessBurst (s .identity) (s .d .now)) (s .e .now) (done .result) (done .last .1 .1 .1 .1 .1 .1 .0)
+    (λ bits i. access-is (s .d .now) bits (s .identity) i (codedBlock 0b101111 6 (s .identity) (s .d .now)) refl) (done .ensures)
 
 pub send-access-spec : {M : Type 1} → statement M
 send-access-spec =
     tie.close
-    (tie.spec (λ c κs. search needs) (λ c. search needs) code-requires (λ c. search needs) (λ c. search needs) returns returns-2)
+    (tie.spec
+    (λ c κs. record { some = lit≤ tt; narrow = lit≤ tt; below = lit< tt; short = lit≤ tt; long = refl })
+    (λ c. search needs)
+    returns)

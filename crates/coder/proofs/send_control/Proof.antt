@@ -1,40 +1,25 @@
--- `coder::send_control` is right: where every test holds, the control block is written; else the buffer stands as before.
+-- `coder::send_control` is right: what it sends of bits is the control block.
 use mathlib.Core.Path.{refl}
 use borrow.Author.Needs.{needs}
 use lib.Dec.{lit<, lit≤}
-use Rattle.coder.specs.laws.Blocks.{control-is}
-use Rattle.coder.specs.laws.Protected.{codable}
 use Rattle.coder.specs.Blocks.{controlBlock}
 use Rattle.coder.specs.Entries.{controlSent}
-use Rattle.coder.specs.laws.Answers.{done-ready, entry-done, entry-refused}
+use Rattle.coder.specs.laws.Blocks.{codedBlock, control-is, same-sent}
 use Rattle.coder.proofs.send_control.Statement.{statement}
 use Rattle.coder.proofs.send_control.Tie as tie
-
-code-requires : tie.Need-code-requires
-code-requires c κs =
-    let s = c .before .before .before .before .before .before .args in
-    let j = c .before .before .before .judge in
-    let ready = done-ready (s .d .now) (s .c .now) 184 456 0 (j .result) (j .ensures) (c .before .enum-told .given .1) in
-    codable 40 (lit< tt) (lit≤ tt) (lit< tt) (lit≤ tt) refl ready
 
 returns : tie.Need-returns
 unfolding controlSent
 returns c =
-    let s = c .before .before .before .before .before .before .before .before .before .args in
-    let j = c .before .before .before .before .before .before .judge in
-    let told = c .before .before .before .before .enum-told .given .1 in
-    let ready = done-ready (s .d .now) (s .c .now) 184 456 0 (j .result) (j .ensures) told in
-    let written = c .before .before .code in
-    entry-done 184 456 0 (s .d .now) (controlBlock (s .d .now)) (s .c .now) (j .result) (j .ensures) (written .last .1 .1 .1 .1 .0) told (control-is (s .d .now) (ready .bits) (written .last .1 .1 .1 .1 .0) (written .ensures))
-
-returns-2 : tie.Need-returns-2
-unfolding controlSent
-returns-2 c =
-    let s = c .before .before .before .before .before .args in
-    let j = c .before .before .judge in
-    entry-refused 184 456 0 (s .d .now) (controlBlock (s .d .now)) (s .c .now) (j .result) (j .ensures) (c .enum-told2 .given .0 .0) (c .enum-told2 .given .1)
+    let s = c .before .before .before .before .before .before .args in
+    let done = c .before .before .send-block in
+    same-sent 184 456 0 (s .d .now) (codedBlock 0x4820009 40 0 (s .d .now)) (controlBlock (s .d .now)) (s .c .now) (done .result) (done .last .1 .1 .1 .1 .1 .1 .0)
+    (λ bits i. control-is (s .d .now) bits (codedBlock 0x4820009 40 0 (s .d .now)) refl) (done .ensures)
 
 pub send-control-spec : {M : Type 1} → statement M
 send-control-spec =
     tie.close
-    (tie.spec (λ c κs. search needs) (λ c. search needs) code-requires (λ c. search needs) (λ c. search needs) returns returns-2)
+    (tie.spec
+    (λ c κs. record { some = lit≤ tt; narrow = lit≤ tt; below = lit< tt; short = lit≤ tt; long = refl })
+    (λ c. search needs)
+    returns)

@@ -8,7 +8,7 @@ use lib.Bits.{bitXor}
 use lib.Dec.{eqb, leb, lit<, lit≤}
 use lib.ListN.{length, take, drop}
 use lib.Seq.{length-take-le, take-add, getD-drop}
-use lib.Pow.{pow-pos}
+use lib.Pow.{pow-mono, pow-pos}
 use native.Mathlib.Nat.{pow-succ'}
 use Rattle.bits.specs.Bits.{Bits, allBits, pick, add, digits, value, ones, zeros}
 use Rattle.bits.specs.laws.Sum.{length-add, bits-add, add-assoc, bits-take, length-ones}
@@ -30,6 +30,7 @@ use Rattle.coder.specs.declared.Refusal.{Refusal}
 use Rattle.coder.specs.Answers.{Meets, judged}
 use Rattle.coder.specs.Entries.{lengths}
 use Rattle.coder.specs.laws.Answers.{Ready}
+use Rattle.coder.specs.laws.Protected.{Fits}
 
 -- ---- a colour that is added to the parity bits is added to the remainder
 module _ (g d p b : List ℕ) (lp : length p ≡ length g) (lb : length b ≡ length g) (bd : Bits d) (bp : Bits p) (bb : Bits b) where
@@ -139,16 +140,16 @@ module _ (g r colour : ℕ) (c d u v : List ℕ) (asked : Readable g r colour c 
         let h : Hearing = blockHeard (digits r g) colour (length d) c in
         record { told = ap Bad (count-is k ek) ∙ ap (λ (b : Bool). pick b (Good (h .count)) (Bad (h .count))) (sym f ∙ good-is t e); left = refl }
 
--- ---- an entry that is ready may read, where its two lengths fit the degree
-pub readable : {c d : List ℕ} {n m i g colour : ℕ} (r : ℕ) → 0 < r → r ≤ 62 → g < 2 ^ r → colour < 2 ^ r → m + r + 4 ≤ 228 → n ≡ 2 * (m + r + 4) → Ready c d n m i → Readable g r colour c d
-readable r some narrow below within short long ready = record {
-  some = some;
-  narrow = narrow;
-  below = below;
-  within = within;
+-- ---- an entry that is ready may read
+pub readable : {c d : List ℕ} {g r n m i : ℕ} → Fits g r n m → Ready c d m n i → Readable g r i c d
+readable {r = r} {i = i} fits ready = record {
+  some = omega (arith, fits .some);
+  narrow = fits .narrow;
+  below = fits .below;
+  within = let l : 2 ^ 6 ≤ 2 ^ r = pow-mono (fits .some) in omega (arith, l, ready .identity);
   bits = ready .bits;
-  short = omega (arith, ready .writes, short);
-  long = ready .reads ∙ long ∙ ap (λ (k : ℕ). 2 * (k + r + 4)) (sym (ready .writes));
+  short = omega (arith, ready .writes, fits .short);
+  long = ready .reads ∙ fits .long ∙ ap (λ (k : ℕ). 2 * (k + r + 4)) (sym (ready .writes));
 }
 
 -- ---- the two ways in which a receiving entry ends
@@ -169,6 +170,10 @@ module _ (n m i : ℕ) (c d : List ℕ) (h : Hearing) (j : Told) (e : j ≡ judg
 pub same-hearing : {g G : List ℕ} {n m : ℕ} → g ≡ G → n ≡ m → (c : List ℕ) (colour : ℕ) (d : List ℕ) (r : Heard) (after : List ℕ)
     → HandedOver (blockHeard g colour n c) d r after → HandedOver (blockHeard G colour m c) d r after
 same-hearing eg en c colour d r after h = subst (λ (x : Hearing). HandedOver x d r after) (ap₂ (λ (x : List ℕ) (k : ℕ). blockHeard x colour k c) eg en) h
+
+pub same-reception : {g G : List ℕ} → g ≡ G → (n m i : ℕ) (c d : List ℕ) (r : Heard) (after : List ℕ)
+    → Meets (reception m n i c (blockHeard g i n c) d) r after → Meets (reception m n i c (blockHeard G i n c) d) r after
+same-reception eg n m i c d r after = subst (λ (x : List ℕ). Meets (reception m n i c (blockHeard x i n c) d) r after) eg
 
 -- ---- a SACCH message's control block is bits, and may be read
 pub message-readable : (e d c : List ℕ) → Bits e → length d ≡ 184 → c ≡ gathered e → Readable 0x4820009 40 0 c d

@@ -31,15 +31,23 @@ pub record Codable (generator degree : ℕ) (d c : List ℕ) : Type 0 where
   pub short : length d + degree + 4 ≤ 228
   pub long : length c ≡ 2 * (length d + degree + 4)
 
--- an entry that is ready may code, where its two lengths fit the degree
-pub codable : {d c : List ℕ} {n m i g : ℕ} (r : ℕ) → 0 < r → r ≤ 62 → g < 2 ^ r → n + r + 4 ≤ 228 → m ≡ 2 * (n + r + 4) → Ready d c n m i → Codable g r d c
-codable r some narrow below short long ready = record {
-  some = some;
-  narrow = narrow;
-  below = below;
+-- a block of n bits that becomes m: its generator, and its two lengths; every identity has fewer bits than the parity
+pub record Fits (generator degree n m : ℕ) : Type 0 where
+  pub some : 6 ≤ degree
+  pub narrow : degree ≤ 62
+  pub below : generator < 2 ^ degree
+  pub short : n + degree + 4 ≤ 228
+  pub long : m ≡ 2 * (n + degree + 4)
+
+-- an entry that is ready may code
+pub codable : {d c : List ℕ} {g r n m i : ℕ} → Fits g r n m → Ready d c n m i → Codable g r d c
+codable {r = r} fits ready = record {
+  some = omega (arith, fits .some);
+  narrow = fits .narrow;
+  below = fits .below;
   bits = ready .bits;
-  short = omega (arith, ready .reads);
-  long = ready .writes ∙ long ∙ ap (λ (k : ℕ). 2 * (k + r + 4)) (sym (ready .reads));
+  short = omega (arith, ready .reads, fits .short);
+  long = ready .writes ∙ fits .long ∙ ap (λ (k : ℕ). 2 * (k + r + 4)) (sym (ready .reads));
 }
 
 -- ---- d, ones and zeros, laid into u part by part

@@ -57,22 +57,25 @@ unfolding own
 own-long held n = length-tab 456 (ownAt held n)
 
 -- ---- what coder's entry says, as take says it
-unfoldable pub asTaken : (ℕ → Taken) → ℕ → Heard → Taken
-asTaken good n (heard.Good k) = good k
-asTaken good n (heard.Bad k) = taken.Bad (record { 0 = n }) k
-asTaken good n (heard.Refused r) = taken.Waiting
+abbrev goodAs : Bool → ℕ → ℕ → Taken
+goodAs facch n k = pick facch (taken.Facch (record { 0 = n }) k) (taken.Speech (record { 0 = n }) k)
+
+unfoldable pub asTaken : Bool → ℕ → Heard → Taken
+asTaken facch n (heard.Good k) = goodAs facch n k
+asTaken facch n (heard.Bad k) = taken.Bad (record { 0 = n }) k
+asTaken facch n (heard.Refused r) = taken.Waiting
 
 -- the way of an entry that is given what it should be
 module _ (n m : ℕ) (c d : List ℕ) (g : Given n m c d) (h : Hearing) (r : Heard) (after : List ℕ) (said : coder.Meets (reception n m 0 c h d) r after) where
-  heard-as : (good : ℕ → Taken) (block : ℕ) (b : Bool) → h .good ≡ b
-      → (asTaken good block r ≡ pick b (good (h .count)) (taken.Bad (record { 0 = block }) (h .count))) × (after ≡ pick b (h .bits) d)
+  heard-as : (facch : Bool) (block : ℕ) (b : Bool) → h .good ≡ b
+      → (asTaken facch block r ≡ pick b (goodAs facch block (h .count)) (taken.Bad (record { 0 = block }) (h .count))) × (after ≡ pick b (h .bits) d)
   unfolding asTaken
-  heard-as good block true e =
+  heard-as facch block true e =
       let all = hears-good n m 0 c d (lit≤ tt) g h (h .bits) (h .count) e refl refl in
-      (ap (asTaken good block) (said .told ∙ ap (λ (a : coder.Answer Heard). a .told) all), said .left ∙ ap (λ (a : coder.Answer Heard). a .left) all)
-  heard-as good block false e =
+      (ap (asTaken facch block) (said .told ∙ ap (λ (a : coder.Answer Heard). a .told) all), said .left ∙ ap (λ (a : coder.Answer Heard). a .left) all)
+  heard-as facch block false e =
       let all = hears-bad n m 0 c d (lit≤ tt) g h (h .count) e refl in
-      (ap (asTaken good block) (said .told ∙ ap (λ (a : coder.Answer Heard). a .told) all), said .left ∙ ap (λ (a : coder.Answer Heard). a .left) all)
+      (ap (asTaken facch block) (said .told ∙ ap (λ (a : coder.Answer Heard). a .told) all), said .left ∙ ap (λ (a : coder.Answer Heard). a .left) all)
 
 picked-told : (b : Bool) (t u : Taken) (x y : List ℕ) → pick b t u ≡ goodOrBad b t x u y .told
 unfolding goodOrBad
@@ -89,13 +92,13 @@ module _ (held d c : List ℕ) (n : ℕ) (ec : c ≡ own held n) (ld : length d 
   given out l = record { reads = ap length ec ∙ own-long held n; bits = subst Bits (sym ec) (own-bits held n); lends = l }
 
   pub speech-brought : coder.Meets (speechReceived c d) r after
-      → (asTaken (λ k. taken.Speech (record { 0 = n }) k) n r ≡ byKind Speech n (own held n) d .told) × (after ≡ byKind Speech n (own held n) d .left)
+      → (asTaken false n r ≡ byKind Speech n (own held n) d .told) × (after ≡ byKind Speech n (own held n) d .left)
   unfolding speechReceived byKind speechOf
   speech-brought said =
       let h : Hearing = speechHeard c in
       let good : ℕ → Taken = λ k. taken.Speech (record { 0 = n }) k in
       let bad : Taken = taken.Bad (record { 0 = n }) (h .count) in
-      let both-are = heard-as 456 260 c d (given d ld) h r after said good n (h .good) refl in (
+      let both-are = heard-as 456 260 c d (given d ld) h r after said false n (h .good) refl in (
         both-are .0 ∙ picked-told (h .good) (good (h .count)) bad (h .bits) d ∙ ap (λ (x : List ℕ). speechOf n (speechHeard x) d .told) ec,
         both-are .1 ∙ picked-left (h .good) (good (h .count)) bad (h .bits) d ∙ ap (λ (x : List ℕ). speechOf n (speechHeard x) d .left) ec,
       )
@@ -105,23 +108,23 @@ module _ (held d c : List ℕ) (n : ℕ) (ec : c ≡ own held n) (ld : length d 
   rest false bits = take-append-drop 184 d
 
   pub facch-brought : coder.Meets (controlReceived c (take 184 d)) r after
-      → (asTaken (λ k. taken.Facch (record { 0 = n }) k) n r ≡ byKind Facch n (own held n) d .told) × (after ++ drop 184 d ≡ byKind Facch n (own held n) d .left)
+      → (asTaken true n r ≡ byKind Facch n (own held n) d .told) × (after ++ drop 184 d ≡ byKind Facch n (own held n) d .left)
   unfolding controlReceived byKind facchOf
   facch-brought said =
       let h : Hearing = blockHeard controlG 0 184 c in
       let good : ℕ → Taken = λ k. taken.Facch (record { 0 = n }) k in
       let bad : Taken = taken.Bad (record { 0 = n }) (h .count) in
       let l : length (take 184 d) ≡ 184 = length-take-le 184 d (omega (arith, ld)) in
-      let both-are = heard-as 456 184 c (take 184 d) (given (take 184 d) l) h r after said good n (h .good) refl in (
+      let both-are = heard-as 456 184 c (take 184 d) (given (take 184 d) l) h r after said true n (h .good) refl in (
         both-are .0 ∙ picked-told (h .good) (good (h .count)) bad (h .bits ++ drop 184 d) d ∙ ap (λ (x : List ℕ). facchOf n (blockHeard controlG 0 184 x) d .told) ec,
         ap (λ (x : List ℕ). x ++ drop 184 d) (both-are .1) ∙ rest (h .good) (h .bits)
             ∙ picked-left (h .good) (good (h .count)) bad (h .bits ++ drop 184 d) d ∙ ap (λ (x : List ℕ). facchOf n (blockHeard controlG 0 184 x) d .left) ec,
       )
 
 -- ---- by the kind that the flags say, and by the burst's number
-pub by-kind : (held d : List ℕ) (n : ℕ) (k k' : Kind) (ones : ℕ) → k ≡ k' → k ≡ vote ones → ones ≡ flagCount held n → byKind k' n (own held n) d ≡ brought held n d
+pub by-kind : (held d : List ℕ) (n : ℕ) (k k' : Kind) → k ≡ k' → k ≡ vote (flagCount held n) → byKind k' n (own held n) d ≡ brought held n d
 unfolding brought
-by-kind held d n k k' ones e ek eo = ap (λ (x : Kind). byKind x n (own held n) d) (sym e ∙ ek ∙ ap vote eo)
+by-kind held d n k k' e ek = ap (λ (x : Kind). byKind x n (own held n) d) (sym e ∙ ek)
 
 module _ (held d : List ℕ) (b : ℕ) where
   pub too-early : b < 7 → record { told = taken.Waiting; left = d } ≡ answered held b d
