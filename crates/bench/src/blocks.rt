@@ -1,7 +1,8 @@
-// The entries of coder and desk, each called once or twice: a bit that is read changes before the second call, so that it is no repetition.
+// The entries of coder and desk, each called so many times in a row. A bit that is read changes from call to call, so that none repeats
+// another, and what the last one wrote is looked at, so that none can be left out.
 use coder::Heard;
 use coder::Told;
-ghost use Prim.Native.Nat.{_<_};
+ghost use Prim.Native.Nat.{_≤_, _<_};
 ghost use lib.ListN.{length};
 
 // Bits in no order that the coding knows.
@@ -35,132 +36,116 @@ fn of_heard(heard: Heard) -> u32 {
     }
 }
 
-pub fn speech_encode(calls: u8) -> u32 {
+// What the last call told, where it left bits.
+pub fn seen(told: u32, left: &[u8]) -> u32 {
+    if bits::are_bits(left) { told } else { 65535 }
+}
+
+// The kinds of block, in the order of 01's table.
+pub const SPEECH: u8 = 0;
+
+pub const CONTROL: u8 = 1;
+
+pub const SACCH: u8 = 2;
+
+pub const ACCESS: u8 = 3;
+
+pub const SCH: u8 = 4;
+
+fn send(kind: u8, d: &[u8], c: &mut [u8]) -> u32 {
+    if kind == SPEECH {
+        return of_told(coder::send_speech(d, c));
+    }
+    if kind == CONTROL {
+        return desk::desk_send_control(d, c);
+    }
+    if kind == SACCH {
+        return of_told(coder::send_sacch(d, c));
+    }
+    if kind == ACCESS {
+        return desk::desk_send_access(7, d, c);
+    }
+    of_told(coder::send_sch(d, c))
+}
+
+fn receive(kind: u8, c: &[u8], d: &mut [u8]) -> u32 {
+    if kind == SPEECH {
+        return of_heard(coder::receive_speech(c, d));
+    }
+    if kind == CONTROL {
+        return desk::desk_receive_control(c, d);
+    }
+    if kind == SACCH {
+        return of_heard(coder::receive_sacch(c, d));
+    }
+    if kind == ACCESS {
+        return desk::desk_receive_access(7, c, d);
+    }
+    of_heard(coder::receive_sch(c, d))
+}
+
+fn encode(kind: u8, calls: u8, d: &mut [u8], c: &mut [u8]) -> u32
+    requires { ⌜ 8 ≤ length (now d) ⌝ }
+{
+    fill(d);
+    let mut told = 0;
+    for i in 0..calls {
+        told = send(kind, d, c);
+        turn(d, 3);
+    }
+    seen(told, c)
+}
+
+fn decode(kind: u8, calls: u8, d: &mut [u8], c: &mut [u8]) -> u32
+    requires { ⌜ 8 ≤ length (now c) ⌝ }
+{
+    fill(d);
+    send(kind, d, c);
+    turn(c, 5);
+    let mut told = 0;
+    for i in 0..calls {
+        told = receive(kind, c, d);
+        turn(c, 7);
+    }
+    seen(told, d)
+}
+
+// A kind of block, sent or received so many times.
+fn run(kind: u8, sends: bool, calls: u8, d: &mut [u8], c: &mut [u8]) -> u32
+    requires { ⌜ (8 ≤ length (now d)) × (8 ≤ length (now c)) ⌝ }
+{
+    if sends {
+        return encode(kind, calls, d, c);
+    }
+    decode(kind, calls, d, c)
+}
+
+pub fn speech(sends: bool, calls: u8) -> u32 {
     let mut d = [0u8; 260];
     let mut c = [0u8; 456];
-    fill(&mut d);
-    let told = of_told(coder::send_speech(&d, &mut c));
-    if calls < 2 {
-        return told;
-    }
-    turn(&mut d, 3);
-    of_told(coder::send_speech(&d, &mut c))
+    run(SPEECH, sends, calls, &mut d, &mut c)
 }
 
-pub fn speech_decode(calls: u8) -> u32 {
-    let mut d = [0u8; 260];
-    let mut c = [0u8; 456];
-    fill(&mut d);
-    of_told(coder::send_speech(&d, &mut c));
-    turn(&mut c, 5);
-    let told = of_heard(coder::receive_speech(&c, &mut d));
-    if calls < 2 {
-        return told;
-    }
-    turn(&mut c, 7);
-    of_heard(coder::receive_speech(&c, &mut d))
-}
-
-pub fn control_encode(calls: u8) -> u32 {
+pub fn control(sends: bool, calls: u8) -> u32 {
     let mut d = [0u8; 184];
     let mut c = [0u8; 456];
-    fill(&mut d);
-    let told = desk::desk_send_control(&d, &mut c);
-    if calls < 2 {
-        return told;
-    }
-    turn(&mut d, 3);
-    desk::desk_send_control(&d, &mut c)
+    run(CONTROL, sends, calls, &mut d, &mut c)
 }
 
-pub fn control_decode(calls: u8) -> u32 {
-    let mut d = [0u8; 184];
-    let mut c = [0u8; 456];
-    fill(&mut d);
-    desk::desk_send_control(&d, &mut c);
-    turn(&mut c, 5);
-    let told = desk::desk_receive_control(&c, &mut d);
-    if calls < 2 {
-        return told;
-    }
-    turn(&mut c, 7);
-    desk::desk_receive_control(&c, &mut d)
-}
-
-pub fn sacch_encode(calls: u8) -> u32 {
+pub fn sacch(sends: bool, calls: u8) -> u32 {
     let mut d = [0u8; 184];
     let mut c = [0u8; 464];
-    fill(&mut d);
-    let told = of_told(coder::send_sacch(&d, &mut c));
-    if calls < 2 {
-        return told;
-    }
-    turn(&mut d, 3);
-    of_told(coder::send_sacch(&d, &mut c))
+    run(SACCH, sends, calls, &mut d, &mut c)
 }
 
-pub fn sacch_decode(calls: u8) -> u32 {
-    let mut d = [0u8; 184];
-    let mut c = [0u8; 464];
-    fill(&mut d);
-    of_told(coder::send_sacch(&d, &mut c));
-    turn(&mut c, 5);
-    let told = of_heard(coder::receive_sacch(&c, &mut d));
-    if calls < 2 {
-        return told;
-    }
-    turn(&mut c, 7);
-    of_heard(coder::receive_sacch(&c, &mut d))
-}
-
-pub fn access_encode(calls: u8) -> u32 {
+pub fn access(sends: bool, calls: u8) -> u32 {
     let mut d = [0u8; 8];
     let mut c = [0u8; 36];
-    fill(&mut d);
-    let told = desk::desk_send_access(7, &d, &mut c);
-    if calls < 2 {
-        return told;
-    }
-    turn(&mut d, 3);
-    desk::desk_send_access(7, &d, &mut c)
+    run(ACCESS, sends, calls, &mut d, &mut c)
 }
 
-pub fn access_decode(calls: u8) -> u32 {
-    let mut d = [0u8; 8];
-    let mut c = [0u8; 36];
-    fill(&mut d);
-    desk::desk_send_access(7, &d, &mut c);
-    turn(&mut c, 5);
-    let told = desk::desk_receive_access(7, &c, &mut d);
-    if calls < 2 {
-        return told;
-    }
-    turn(&mut c, 7);
-    desk::desk_receive_access(7, &c, &mut d)
-}
-
-pub fn sch_encode(calls: u8) -> u32 {
+pub fn sch(sends: bool, calls: u8) -> u32 {
     let mut d = [0u8; 25];
     let mut c = [0u8; 78];
-    fill(&mut d);
-    let told = of_told(coder::send_sch(&d, &mut c));
-    if calls < 2 {
-        return told;
-    }
-    turn(&mut d, 3);
-    of_told(coder::send_sch(&d, &mut c))
-}
-
-pub fn sch_decode(calls: u8) -> u32 {
-    let mut d = [0u8; 25];
-    let mut c = [0u8; 78];
-    fill(&mut d);
-    of_told(coder::send_sch(&d, &mut c));
-    turn(&mut c, 5);
-    let told = of_heard(coder::receive_sch(&c, &mut d));
-    if calls < 2 {
-        return told;
-    }
-    turn(&mut c, 7);
-    of_heard(coder::receive_sch(&c, &mut d))
+    run(SCH, sends, calls, &mut d, &mut c)
 }

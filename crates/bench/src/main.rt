@@ -1,5 +1,5 @@
-// What host/bench counts: a line names an entry, and how many times it is called, 1 or 2; of the takes, how many bursts, up to 8. The number that the last call told is
-// written; what an entry must tell is tested elsewhere.
+// What host/bench counts: a line names an entry, and how many times it is called, up to 9; of the takes, how many bursts, up to 8. The number
+// that the last call told is written; what an entry must tell is tested elsewhere.
 mod blocks;
 mod streams;
 
@@ -53,34 +53,34 @@ fn call(name: &[u8], calls: u8) -> u32 {
 // An entry of a block.
 fn call_block(name: &[u8], calls: u8) -> u32 {
     if same(name, b"speech-encode") {
-        return blocks::speech_encode(calls);
+        return blocks::speech(true, calls);
     }
     if same(name, b"speech-decode") {
-        return blocks::speech_decode(calls);
+        return blocks::speech(false, calls);
     }
     if same(name, b"control-encode") {
-        return blocks::control_encode(calls);
+        return blocks::control(true, calls);
     }
     if same(name, b"control-decode") {
-        return blocks::control_decode(calls);
+        return blocks::control(false, calls);
     }
     if same(name, b"sacch-encode") {
-        return blocks::sacch_encode(calls);
+        return blocks::sacch(true, calls);
     }
     if same(name, b"sacch-decode") {
-        return blocks::sacch_decode(calls);
+        return blocks::sacch(false, calls);
     }
     if same(name, b"access-encode") {
-        return blocks::access_encode(calls);
+        return blocks::access(true, calls);
     }
     if same(name, b"access-decode") {
-        return blocks::access_decode(calls);
+        return blocks::access(false, calls);
     }
     if same(name, b"sch-encode") {
-        return blocks::sch_encode(calls);
+        return blocks::sch(true, calls);
     }
     if same(name, b"sch-decode") {
-        return blocks::sch_decode(calls);
+        return blocks::sch(false, calls);
     }
     65535
 }

@@ -1,5 +1,6 @@
-// The streams: a sender that sends a block once or twice, and a receiver that takes the bursts of a block.
+// The streams: a sender that sends a block so many times, and a receiver that takes the bursts of a block.
 use crate::blocks::fill;
+use crate::blocks::seen;
 use burst::BurstNumber;
 use stream::Taken;
 use stream::Told;
@@ -42,16 +43,16 @@ pub fn send_facch(calls: u8) -> u32 {
 
 fn send(calls: u8, d: &[u8]) -> u32 {
     let mut e = [0u8; 464];
-    let sender = Sender::fresh();
-    let sent = sender.send(d, &mut e);
-    let told = sent.told;
-    if calls < 2 {
-        return of_told(told);
+    let mut sender = Sender::fresh();
+    let mut told = 0;
+    for i in 0..calls {
+        let sent = sender.send(d, &mut e);
+        let said = sent.told;
+        told = of_told(said);
+        let next = sent.next;
+        sender = next;
     }
-    let next = sent.next;
-    let again = next.send(d, &mut e);
-    let said = again.told;
-    of_told(said)
+    seen(told, &e)
 }
 
 pub fn take_speech(calls: u8) -> u32 {
@@ -91,7 +92,7 @@ fn take_all(calls: u8, e: &[u8]) -> u32
     let mut told = 0;
     for b in 0..calls {
         if b > 7 {
-            return told;
+            return seen(told, &d);
         }
         let from = 116 * b as usize;
         let to = from + 116;
@@ -101,5 +102,5 @@ fn take_all(calls: u8, e: &[u8]) -> u32
         let next = received.next;
         receiver = next;
     }
-    told
+    seen(told, &d)
 }
