@@ -1,8 +1,9 @@
 -- `stream::receiver::answer` is right: burst 4n+7, and no other, brings block n.
-use mathlib.Core.Path.{ap, _∙_}
+use mathlib.Core.Path.{_≡_, ap, _∙_}
+use Prim.Native.Nat.{_-_, _/_}
 use native.Mathlib.Omega.{arith}
 use borrow.Author.Needs.{needs}
-use Rattle.stream.specs.Receiving.{Brought}
+use Rattle.stream.specs.Receiving.{Brought, brought}
 use Rattle.stream.specs.laws.Receiving.{too-early, not-last, is-last}
 use Rattle.stream.proofs.receiver.answer.Statement.{statement}
 use Rattle.stream.proofs.receiver.answer.Tie as tie
@@ -28,8 +29,11 @@ cast-bring c = let h = c .before .before .before .before .pre .0 in omega (arith
 returns-3 : tie.Need-returns-3
 returns-3 c =
     let s = c .before .before .before .before .before .before .before .before .args in
-    let is = is-last (s .held .now) (s .d .now) (s .b) (c .before .before .before .before .before .if1 .left) (c .before .before .before .before .if2 .left) in
-    (c .before .before .bring .ensures .0 ∙ ap (λ (b : Brought). b .told) is, c .before .before .bring .ensures .1 ∙ ap (λ (b : Brought). b .left) is)
+    let held = s .held .now in
+    let d = s .d .now in
+    let told : c .before .before .bring .result ≡ brought held (s .b / 4 - 1) d .told = c .before .before .bring .ensures .0 in
+    let is = is-last held d (s .b) (c .before .before .before .before .before .if1 .left) (c .before .before .before .before .if2 .left) in
+    (told ∙ ap (λ (b : Brought). b .told) is, c .before .before .bring .ensures .1 ∙ ap (λ (b : Brought). b .left) is)
 
 pub answer-spec : {M : Type 1} → statement M
 answer-spec =
