@@ -385,6 +385,28 @@ fn garbage(random: &mut Random) -> Vec<u8> {
     }
 }
 
+/// A line with random bytes from a place on, or with one byte changed.
+pub fn garbled(random: &mut Random, mut line: Vec<u8>, from: usize) -> Vec<u8> {
+    if random.one_in(2) {
+        for k in from..line.len() {
+            line[k] = random.any_byte();
+        }
+    } else {
+        let index = random.below(line.len());
+        line[index] = random.any_byte();
+    }
+    line
+}
+
+/// No line of one sort holds a newline.
+#[cfg(test)]
+pub fn no_newline(seed: u64, number: usize, made: impl Fn(&mut Random) -> Vec<u8>) {
+    let mut random = Random::new(seed);
+    for _ in 0..number {
+        assert!(!made(&mut random).contains(&10));
+    }
+}
+
 #[cfg(test)]
 mod tests {
     use super::*;
@@ -435,10 +457,7 @@ mod tests {
 
     #[test]
     fn no_made_line_holds_a_newline() {
-        let mut random = Random::new(12);
-        for _ in 0..5000 {
-            assert!(!line(&mut random).contains(&10));
-        }
+        no_newline(12, 5000, line);
     }
 
     #[test]

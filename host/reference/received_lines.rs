@@ -324,16 +324,8 @@ fn long_line(random: &mut Random) -> Vec<u8> {
 /// Random bytes after a good word, or a line that will be decoded with one byte changed.
 fn garbage(random: &mut Random) -> Vec<u8> {
     let request = any_decoded(random);
-    let mut line = request.line();
-    if random.one_in(2) {
-        for k in request.word.len() + 1..line.len() {
-            line[k] = random.any_byte();
-        }
-    } else {
-        let index = random.below(line.len());
-        line[index] = random.any_byte();
-    }
-    line
+    let line = request.line();
+    lines::garbled(random, line, request.word.len() + 1)
 }
 
 #[cfg(test)]
@@ -424,10 +416,7 @@ mod tests {
 
     #[test]
     fn no_made_line_holds_a_newline() {
-        let mut random = Random::new(46);
-        for _ in 0..3000 {
-            assert!(!line(&mut random).contains(&10));
-        }
+        crate::lines::no_newline(46, 3000, line);
     }
 
     #[test]

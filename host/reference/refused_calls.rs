@@ -340,9 +340,6 @@ mod tests {
     #[test]
     fn no_made_line_holds_a_newline() {
         let (_, bench) = under_way(true);
-        let mut random = Random::new(84);
-        for _ in 0..5000 {
-            assert!(!line(&mut random, &bench).contains(&10));
-        }
+        crate::lines::no_newline(84, 5000, |random| line(random, &bench));
     }
 }

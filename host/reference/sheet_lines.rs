@@ -165,10 +165,7 @@ mod tests {
 
     #[test]
     fn no_made_line_holds_a_newline() {
-        let mut random = Random::new(17);
-        for _ in 0..5000 {
-            assert!(!line(&mut random).contains(&10));
-        }
+        crate::lines::no_newline(17, 5000, line);
     }
 
     #[test]

@@ -144,16 +144,8 @@ fn long_line(random: &mut Random) -> Vec<u8> {
 
 /// Random bytes after the word, or a valid line with one byte changed.
 fn garbage(random: &mut Random) -> Vec<u8> {
-    let mut line = valid(random).line();
-    if random.one_in(2) {
-        for k in b"trellis ".len()..line.len() {
-            line[k] = random.any_byte();
-        }
-    } else {
-        let index = random.below(line.len());
-        line[index] = random.any_byte();
-    }
-    line
+    let line = valid(random).line();
+    lines::garbled(random, line, b"trellis ".len())
 }
 
 #[cfg(test)]
@@ -210,10 +202,7 @@ mod tests {
 
     #[test]
     fn no_made_line_holds_a_newline() {
-        let mut random = Random::new(51);
-        for _ in 0..3000 {
-            assert!(!line(&mut random).contains(&10));
-        }
+        crate::lines::no_newline(51, 3000, line);
     }
 
     #[test]
