@@ -319,6 +319,11 @@ fn wrong_word(random: &mut Random) -> Vec<u8> {
 /// Too few or too many arguments, or spaces where none belong.
 fn wrong_fields(random: &mut Random) -> Vec<u8> {
     let request = Request::valid(random);
+    wrong_fields_of(random, &request, b"access ")
+}
+
+/// The same of one request; `access` begins a line that wants an identity.
+pub fn wrong_fields_of(random: &mut Random, request: &Request, access: &[u8]) -> Vec<u8> {
     let (word, line) = (request.word.as_bytes(), request.line());
     let identity = good_identity(random);
     match random.below(11) {
@@ -329,8 +334,8 @@ fn wrong_fields(random: &mut Random) -> Vec<u8> {
         4 => [&line[..], b" "].concat(),
         5 => request.arguments().join(&b' '),
         6 => [word, b" ", &identity, b" ", &line[word.len() + 1..]].concat(),
-        7 => [b"access ", &request.bits[..]].concat(),
-        8 => [b"access ", &identity[..], b" "].concat(),
+        7 => [access, &request.bits].concat(),
+        8 => [access, &identity, b" "].concat(),
         9 => [word, b"\t", &request.bits].concat(),
         _ => double_space(random, &line),
     }

@@ -294,21 +294,7 @@ fn sending_word(random: &mut Random) -> Vec<u8> {
 /// Too few or too many arguments, or spaces where none belong.
 fn wrong_fields(random: &mut Random) -> Vec<u8> {
     let request = any_decoded(random);
-    let (word, line) = (request.word.as_bytes(), request.line());
-    let identity = lines::good_identity(random);
-    match random.below(11) {
-        0 => word.to_vec(),
-        1 => [word, b" "].concat(),
-        2 => [&line[..], b" ", &request.bits].concat(),
-        3 => [b" ", &line[..]].concat(),
-        4 => [&line[..], b" "].concat(),
-        5 => request.arguments().join(&b' '),
-        6 => [word, b" ", &identity, b" ", &line[word.len() + 1..]].concat(),
-        7 => [b"access? ", &request.bits[..]].concat(),
-        8 => [b"access? ", &identity[..], b" "].concat(),
-        9 => [word, b"\t", &request.bits].concat(),
-        _ => lines::double_space(random, &line),
-    }
+    lines::wrong_fields_of(random, &request, b"access? ")
 }
 
 /// A line at the limit of 1,000 bytes or over it.
