@@ -94,14 +94,12 @@ fn flag(facch: bool) -> u8
 }
 
 // Block d begins in four bursts, in which the last one goes on; what is left of d to send is its coded bits.
-fn begin(d: &[u8], last: &[u8], q: u8, e: &mut [u8]) -> [u8; 456]
-    requires { ⌜ Codable (now d) (now last) (now e) ⌝ }
-    ensures { λ c. ⌜ (c ≡ blockOf (now (d .entry))) × (now (e .exit) ≡ four (blockOf (now (d .entry))) (flagOf (isFacch (length (now (d .entry))))) (now (last .entry)) q) ⌝ }
+fn begin(d: &[u8], last: &[u8], q: u8, block: &mut [u8], e: &mut [u8])
+    requires { ⌜ Codable (now d) (now last) (now block) (now e) ⌝ }
+    ensures { λ _. ⌜ (now (block .exit) ≡ blockOf (now (d .entry))) × (now (e .exit) ≡ four (blockOf (now (d .entry))) (flagOf (isFacch (length (now (d .entry))))) (now (last .entry)) q) ⌝ }
 {
-    let mut block = [0u8; 456];
-    code(d, &mut block);
-    burst::fill_four(&block, flag(d.len() == 184), last, q, e);
-    block
+    code(d, block);
+    burst::fill_four(block, flag(d.len() == 184), last, q, e);
 }
 
 impl Sender {
@@ -124,7 +122,8 @@ impl Sender {
         let told = judge_send(d, e.len(), self.ended, self.sent.0);
         if let Told::Done = told {
             let last = self.last;
-            let block = begin(d, &last, flag(self.facch), e);
+            let mut block = [0u8; 456];
+            begin(d, &last, flag(self.facch), &mut block, e);
             let sent = burst::BlockNumber(self.sent.0 + 1);
             self.sent = sent;
             self.facch = d.len() == 184;

@@ -23,10 +23,11 @@ use Rattle.stream.specs.declared.Told.the-variants.{Done, Refused}
 use Rattle.stream.specs.declared.sender.Sender.{Sender}
 
 -- ---- what `sender::begin` asks
-pub record Codable (d last e : List ℕ) : Type 0 where
+pub record Codable (d last block e : List ℕ) : Type 0 where
   pub bits : Bits d
   pub reads : isBlock (length d) ≡ true
   pub held : length last ≡ 456
+  pub coded : length block ≡ 456
   pub writes : length e ≡ 464
 
 -- ---- done means that every test of `sendJudged` held

@@ -15,18 +15,18 @@ use Rattle.stream.specs.declared.sender.Sender.{Sender}
 begin-requires : tie.Need-begin-requires
 unfolding sendTold
 begin-requires c κs =
-    let s = c .before .before .before .before .before .before .before .before .before .args in
-    let j = c .before .before .before .before .before .before .judge-send in
-    let able = send-able (s .self) (s .d .now) (s .e .now) (j .result) (j .ensures) (c .before .before .before .before .enum-told .given .1) in
+    let s = c .before .before .before .before .before .before .before .before .before .before .args in
+    let j = c .before .before .before .before .before .before .before .judge-send in
+    let able = send-able (s .self) (s .d .now) (s .e .now) (j .result) (j .ensures) (c .before .before .before .before .before .enum-told .given .1) in
     let held : length (s .self .last) ≡ 456 = search needs in
-    record { bits = able .bits; reads = able .reads; held = held; writes = able .writes }
+    record { bits = able .bits; reads = able .reads; held = held; coded = search needs; writes = able .writes }
 
-add-t14 : tie.Need-add-t14
+add-t17 : tie.Need-add-t17
 unfolding sendTold
-add-t14 c =
-    let s = c .before .before .before .before .before .before .before .before .before .before .before .before .before .args in
-    let j = c .before .before .before .before .before .before .before .before .before .before .judge-send in
-    let able = send-able (s .self) (s .d .now) (s .e .now) (j .result) (j .ensures) (c .before .before .before .before .before .before .before .before .enum-told .given .1) in
+add-t17 c =
+    let s = c .before .before .before .before .before .before .before .before .before .before .before .before .before .before .before .args in
+    let j = c .before .before .before .before .before .before .before .before .before .before .before .before .judge-send in
+    let able = send-able (s .self) (s .d .now) (s .e .now) (j .result) (j .ensures) (c .before .before .before .before .before .before .before .before .before .before .enum-told .given .1) in
     omega (arith, able .room)
 
 next-is : (s : Sender) (d c : List ℕ) → c ≡ blockOf d → _≡_ {A = Sender} (record { sent = record { 0 = s .sent .0 + 1 }; ended = s .ended; facch = isFacch (length d); last = c }) (sentNext s d)
@@ -36,13 +36,13 @@ next-is s d c e = ap (λ (l : List ℕ). record { sent = record { 0 = s .sent .0
 returns : tie.Need-returns
 unfolding sendTold sentBursts sendAnswer
 returns c =
-    let s = c .before .before .before .before .before .before .before .before .before .before .before .before .before .args in
-    let j = c .before .before .before .before .before .before .before .before .before .before .judge-send in
-    let b = c .before .before .before .begin in
+    let s = c .before .before .before .before .before .before .before .before .before .before .before .before .before .before .before .args in
+    let j = c .before .before .before .before .before .before .before .before .before .before .before .before .judge-send in
+    let b = c .before .before .before .before .begin in
     done-afterwards (sendTold (s .self) (s .d .now) (s .e .now)) (sentBursts (s .self) (s .d .now)) (sentNext (s .self) (s .d .now)) (s .e .now) (s .self) (j .result) (j .ensures)
-    _ _ (c .before .before .before .before .before .before .before .before .enum-told .given .1)
-    (b .ensures .1 ∙ ap (four (blockOf (s .d .now)) (flagOf (isFacch (length (s .d .now)))) (s .self .last)) (c .before .before .before .before .before .flag .ensures))
-    (next-is (s .self) (s .d .now) (b .result) (b .ensures .0))
+    _ _ (c .before .before .before .before .before .before .before .before .before .before .enum-told .given .1)
+    (b .ensures .1 ∙ ap (four (blockOf (s .d .now)) (flagOf (isFacch (length (s .d .now)))) (s .self .last)) (c .before .before .before .before .before .before .before .flag .ensures))
+    (next-is (s .self) (s .d .now) (b .last .1 .1 .1 .0) (b .ensures .0))
 
 returns-2 : tie.Need-returns-2
 unfolding sendTold sendAnswer
@@ -55,4 +55,15 @@ returns-2 c =
 pub send-spec : {M : Type 1} → statement M
 send-spec =
     tie.close
-    (tie.spec (λ c κs. search needs) (λ c. search needs) (λ c. search needs) (λ c κs. search needs) begin-requires add-t14 (λ c. search needs) returns (λ c. search needs) returns-2)
+    (tie.spec
+    (λ c κs. search needs)
+    (λ c. search needs)
+    (λ c. search needs)
+    (λ c κs. search needs)
+    (λ c. search needs)
+    begin-requires
+    add-t17
+    (λ c. search needs)
+    returns
+    (λ c. search needs)
+    returns-2)
