@@ -9,8 +9,6 @@ use text::put_number;
 use text::same;
 use text::take_line;
 use text::write_line;
-ghost use Prim.Native.Nat.{_≤_};
-ghost use lib.ListN.{length};
 
 fn main() {
     let mut chunk = [0u8; 4096];

@@ -6,7 +6,6 @@ use stream::Taken;
 use stream::Told;
 use stream::receiver::Receiver;
 use stream::sender::Sender;
-ghost use Prim.Native.Nat.{_≤_};
 ghost use mathlib.Core.Path.{_≡_};
 ghost use lib.ListN.{length};
 

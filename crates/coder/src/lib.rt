@@ -3,9 +3,7 @@ mod block;
 mod sacch;
 mod speech;
 
-ghost use mathlib.Core.Bool.{true};
 ghost use mathlib.Core.Path.{_≡_};
-ghost use Prim.Native.Nat.{ℕ};
 ghost use lib.Dec.{eqb, leb};
 ghost use lib.ListN.{length};
 ghost use Rattle.bits.specs.Bits.{allBits, both, digits};

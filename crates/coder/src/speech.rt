@@ -2,7 +2,7 @@
 use crate::Heard;
 ghost use mathlib.Core.List.{_++_};
 ghost use mathlib.Core.Path.{_≡_};
-ghost use Prim.Native.Nat.{_≤_, _<_};
+ghost use Prim.Native.Nat.{_<_};
 ghost use lib.ListN.{length, take, drop};
 ghost use Rattle.bits.specs.Bits.{Bits, tab};
 ghost use Rattle.coder.specs.Blocks.{speechP, speechUAt, speechBlock};

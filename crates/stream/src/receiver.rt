@@ -5,7 +5,7 @@ use crate::Told;
 use burst::BlockNumber;
 use burst::BurstNumber;
 ghost use mathlib.Core.Path.{_≡_};
-ghost use Prim.Native.Nat.{_+_, _≤_, _<_};
+ghost use Prim.Native.Nat.{_+_, _<_};
 ghost use lib.Dec.{eqb, leb};
 ghost use lib.ListN.{length};
 ghost use Rattle.bits.specs.Bits.{allBits, both};

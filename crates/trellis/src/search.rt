@@ -1,10 +1,10 @@
 // The search for the nearest block: forward through the rows, back through the choices.
 use crate::steps::choices;
 use crate::steps::step;
-ghost use mathlib.Core.List.{List, _++_, reverse};
+ghost use mathlib.Core.List.{_++_, reverse};
 ghost use mathlib.Core.Path.{_≡_};
-ghost use Prim.Native.Nat.{ℕ, _+_, _-_, _*_, _/_, _%_, _^_, _≤_, _<_};
-ghost use lib.ListN.{length, getD, drop};
+ghost use Prim.Native.Nat.{_+_, _-_, _*_, _/_, _%_, _^_, _≤_, _<_};
+ghost use lib.ListN.{length, drop};
 ghost use Rattle.bits.specs.Bits.{Bits};
 ghost use Rattle.register.specs.Register.{bit, from};
 ghost use Rattle.trellis.specs.Nearest.{row, nearest, nearestCount};

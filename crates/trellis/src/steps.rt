@@ -1,8 +1,7 @@
 // One received pair: the row of sixteen path counts before it and after it, and the sixteen choices.
 use crate::pair;
 ghost use mathlib.Core.Path.{_≡_};
-ghost use Prim.Native.Nat.{_+_, _*_, _/_, _%_, _≤_, _<_, min};
-ghost use lib.ListN.{getD};
+ghost use Prim.Native.Nat.{_+_, _/_, _%_, _≤_, _<_, min};
 ghost use Rattle.bits.specs.Bits.{pick, tab, value};
 ghost use lib.Dec.{ltb};
 ghost use Rattle.trellis.specs.Nearest.{differ};

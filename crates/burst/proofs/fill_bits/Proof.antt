@@ -1,6 +1,6 @@
 -- `burst::fill_bits` is right: it fills the bytes two by two, each with the bit that the table says.
 use mathlib.Core.Path.{sym, _∙_}
-use Prim.Native.Nat.{ℕ, _+_, _-_, _*_, _≤_, _<_}
+use Prim.Native.Nat.{_+_, _-_, _*_, _≤_}
 use native.Mathlib.Omega.{arith}
 use lib.ListN.{length-set}
 use Rattle.bits.specs.laws.Tab.{Filled, filled-none, filled-pair, filled-all}

@@ -1,5 +1,4 @@
 -- `burst::gather` is right: it fills the places in turn, each with what stands where the table says.
-use mathlib.Core.Path.{_≡_}
 use Prim.Native.Nat.{_-_}
 use native.Mathlib.Omega.{arith}
 use lib.ListN.{getD}

@@ -1,5 +1,4 @@
 -- `coder::send_block` is right: where every test holds, the block is written; else the buffer stands as before.
-use mathlib.Core.Path.{refl}
 use borrow.Author.Needs.{needs}
 use Rattle.coder.specs.laws.Answers.{done-ready, entry-done, entry-refused}
 use Rattle.coder.specs.laws.Blocks.{codedBlock}

@@ -1,5 +1,5 @@
 -- `parity::bring` is right: the quotient's next bit is 0 or 1, and the two products are the two cases of `bringN`.
-use mathlib.Core.Path.{_≡_, ap, _∙_}
+use mathlib.Core.Path.{ap, _∙_}
 use Prim.Native.Nat.{ℕ, _+_, _*_, _/_, _^_, _≤_}
 use native.Mathlib.Omega.{arith}
 use borrow.Author.Needs.{needs}
