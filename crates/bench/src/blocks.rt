@@ -15,7 +15,7 @@ pub fn fill(d: &mut [u8]) {
 }
 
 // The other bit in its place.
-pub fn turn(d: &mut [u8], i: usize)
+fn turn(d: &mut [u8], i: usize)
     requires { ⌜ i < length (now d) ⌝ }
 {
     d[i] = 1 - d[i] % 2;
@@ -42,15 +42,15 @@ pub fn seen(told: u32, left: &[u8]) -> u32 {
 }
 
 // The kinds of block, in the order of 01's table.
-pub const SPEECH: u8 = 0;
+const SPEECH: u8 = 0;
 
-pub const CONTROL: u8 = 1;
+const CONTROL: u8 = 1;
 
-pub const SACCH: u8 = 2;
+const SACCH: u8 = 2;
 
-pub const ACCESS: u8 = 3;
+const ACCESS: u8 = 3;
 
-pub const SCH: u8 = 4;
+const SCH: u8 = 4;
 
 fn send(kind: u8, d: &[u8], c: &mut [u8]) -> u32 {
     if kind == SPEECH {
