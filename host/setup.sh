@@ -55,8 +55,8 @@ need_desk_tools() {
     fi
 }
 
-# What the bench counts with, and the library that it counts beside ours.
-need_bench_tools() {
+# What is counted with, and the library that it counts beside ours.
+need_speed_tools() {
     need_desk_tools || return 1
     if on_x86_64; then need_packages qemu-user libosmocore-dev; else need_packages libosmocore-dev:amd64; fi
 }

@@ -1,4 +1,4 @@
-//! The entries of the reference that host/bench/bench counts: NAME CALLS calls one of them so many
+//! The entries of the reference that host/speed/speed counts: NAME CALLS calls one of them so many
 //! times. Takes are those of the first bursts of a stream. What is decoded must be what was encoded.
 
 // Only a part of the reference is asked here.

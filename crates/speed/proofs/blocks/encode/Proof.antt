@@ -4,8 +4,8 @@ use native.Mathlib.Omega.{arith}
 use mathlib.Core.Path.{_≡_, refl}
 use lib.ListN.{length}
 use borrow.Author.Needs.{needs}
-use Rattle.bench.proofs.blocks.encode.Statement.{statement}
-use Rattle.bench.proofs.blocks.encode.Tie as tie
+use Rattle.speed.proofs.blocks.encode.Statement.{statement}
+use Rattle.speed.proofs.blocks.encode.Tie as tie
 
 abbrev Inv-loop : tie.InvT-loop
 Inv-loop kind calls d₀ c₀ told₀ i₀ d c told i = (i ≤ calls) × (length d ≡ length d₀) × (length c ≡ length c₀)

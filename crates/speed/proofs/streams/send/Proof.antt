@@ -3,8 +3,8 @@ use mathlib.Core.Path.{_≡_}
 use Prim.Native.Nat.{_-_, _≤_}
 use lib.ListN.{length}
 use borrow.Author.Needs.{needs}
-use Rattle.bench.proofs.streams.send.Statement.{statement}
-use Rattle.bench.proofs.streams.send.Tie as tie
+use Rattle.speed.proofs.streams.send.Statement.{statement}
+use Rattle.speed.proofs.streams.send.Tie as tie
 
 abbrev Inv-loop : tie.InvT-loop
 Inv-loop calls d e₀ sender₀ told₀ i₀ e sender told i = (i ≤ calls) × (length e ≡ 464)

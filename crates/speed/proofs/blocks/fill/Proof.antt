@@ -3,8 +3,8 @@ use mathlib.Core.Path.{_≡_}
 use Prim.Native.Nat.{_-_, _≤_, _<_}
 use lib.ListN.{length}
 use borrow.Author.Needs.{needs}
-use Rattle.bench.proofs.blocks.fill.Statement.{statement}
-use Rattle.bench.proofs.blocks.fill.Tie as tie
+use Rattle.speed.proofs.blocks.fill.Statement.{statement}
+use Rattle.speed.proofs.blocks.fill.Tie as tie
 
 abbrev Inv-loop : tie.InvT-loop
 Inv-loop d₀ x₀ i₀ i-end d x i = (i ≤ i-end) × (i-end ≡ length d₀) × (length d ≡ length d₀) × (x < 65537)

@@ -3,8 +3,8 @@ use mathlib.Core.Path.{_≡_}
 use Prim.Native.Nat.{_-_, _≤_}
 use lib.ListN.{length}
 use borrow.Author.Needs.{needs}
-use Rattle.bench.proofs.streams.take_all.Statement.{statement}
-use Rattle.bench.proofs.streams.take_all.Tie as tie
+use Rattle.speed.proofs.streams.take_all.Statement.{statement}
+use Rattle.speed.proofs.streams.take_all.Tie as tie
 
 abbrev Inv-loop : tie.InvT-loop
 Inv-loop calls e d₀ receiver₀ told₀ b₀ d receiver told b = (b ≤ calls) × (length d ≡ 260)

@@ -1,5 +1,5 @@
 /*
- * The entries of libosmocoding that host/bench/bench counts: NAME CALLS calls one of them so many times. What is decoded must be
+ * The entries of libosmocoding that host/speed/speed counts: NAME CALLS calls one of them so many times. What is decoded must be
  * what was encoded.
  */
 #include <stdbool.h>
