@@ -1,22 +1,38 @@
 -- The whole answer of each entry (01, The bench and its edges), of what it reads and of what its lent buffer held before.
-use mathlib.Core.Bool.{Bool, true}
+use mathlib.Core.Bool.{Bool, true, false}
 use mathlib.Core.List.{List}
-use Prim.Native.Nat.{ℕ, _/_, _%_}
+use mathlib.Core.Path.{_≡_}
+use Prim.Native.Nat.{ℕ, _*_, _/_, _%_}
 use lib.Dec.{eqb, leb}
 use lib.ListN.{length}
-use Rattle.bits.specs.Bits.{both, allBits, tab}
+use Rattle.bits.specs.Bits.{Bits, both, allBits, tab}
 use Rattle.trellis.specs.Nearest.{row}
-use Rattle.coder.specs.Answers.{Answer, judged, answered}
-use Rattle.coder.specs.declared.Told.{Told}
+use Rattle.answers.specs.Answers.{Answer, tells}
+use Rattle.answers.specs.declared.Refusal.the-variants.{Length, NotBits, Identity}
+use Rattle.answers.specs.declared.Told.{Told}
+use Rattle.answers.specs.declared.Told.the-variants.{Done, Refused}
 use Rattle.coder.specs.Blocks.{speechBlock, controlBlock, sacchMessage, accessBurst, schBurst}
+
+-- 01: where several apply, 1, 2, 3. Are the lengths right, are all bytes bits, is the identity at most 63?
+unfoldable pub judged : Bool → Bool → Bool → Told
+judged false bits identity = Refused Length
+judged true false identity = Refused NotBits
+judged true true false = Refused Identity
+judged true true true = Done
 
 -- both lent buffers have the lengths of 01's table
 abbrev pub lengths : List ℕ → ℕ → List ℕ → ℕ → Bool
 lengths d n c m = both (eqb (length d) n) (eqb (length c) m)
 
+-- what an entry should be given: n bits to read, and a lent buffer of m bytes
+pub record Given (n m : ℕ) (d out : List ℕ) : Type 0 where
+  pub reads : length d ≡ n
+  pub bits : Bits d
+  pub lends : length out ≡ m
+
 -- an entry that reads n bits d, and an identity, and sends m bytes into a buffer that held c
 unfoldable pub entry : ℕ → ℕ → ℕ → List ℕ → List ℕ → List ℕ → Answer Told
-entry n m identity d sent c = answered (judged (lengths d n c m) (allBits d) (leb identity 63)) sent c
+entry n m identity d sent c = tells (judged (lengths d n c m) (allBits d) (leb identity 63)) sent c
 
 -- speech block: 260 to 456. An entry that reads no identity has 0 in its place
 unfoldable pub speechSent : List ℕ → List ℕ → Answer Told
@@ -39,8 +55,11 @@ unfoldable pub schSent : List ℕ → List ℕ → Answer Told
 schSent d e = entry 25 78 0 d (schBurst d) e
 
 -- ---- trellis view: reads 2t bytes, t from 0 to 228; an odd length, or one over 456, is refusal 1
+abbrev pub viewed : ℕ
+viewed = 228
+
 abbrev pub viewLength : List ℕ → Bool
-viewLength r = both (eqb (length r % 2) 0) (leb (length r) 456)
+viewLength r = both (eqb (length r % 2) 0) (leb (length r) (2 * viewed))
 
 -- sixteen times 65,535: the row where no bits end in any state, and what a refusal gives
 unfoldable pub unreached : List ℕ
@@ -48,4 +67,4 @@ unreached = tab 16 (λ s. 65535)
 
 -- what is told, and the sixteen numbers after all pairs of r
 unfoldable pub trellisViewed : List ℕ → Answer Told
-trellisViewed r = answered (judged (viewLength r) (allBits r) true) (row r (length r / 2)) unreached
+trellisViewed r = tells (judged (viewLength r) (allBits r) true) (row r (length r / 2)) unreached

@@ -10,8 +10,8 @@ use Rattle.trellis.specs.Pairs.{back, first, second, codedAt, coded, pairOf}
 use Rattle.register.specs.Register.{from, bit, way, best}
 use Rattle.trellis.specs.Nearest.{differ, pairCost, rowAt, row}
 use Rattle.burst.specs.Places.{placeOf, eOf, eAt}
-use Rattle.coder.specs.Answers.{judged, answered, leaves}
-use Rattle.coder.specs.Entries.{unreached, trellisViewed}
+use Rattle.answers.specs.Answers.{sentOr, tells}
+use Rattle.coder.specs.Entries.{judged, unreached, trellisViewed}
 use Rattle.coder.specs.Blocks.{speechP, speechUAt, speechU, speechBlock, colour, accessU, accessBurst}
 
 abbrev pub same : List ℕ → List ℕ → Bool
@@ -64,5 +64,5 @@ allHold [] = true
 allHold (x ∷ xs) = both (same (x .computed) (x .said)) (allHold xs)
 
 pub examples : allHold table ≡ true
-unfolding allHold table tab tabFrom add zeros ones digits occurs product lower divide remainder parity speechG accessG back first second codedAt coded placeOf eOf eAt speechP speechUAt speechU speechBlock colour accessU accessBurst from bit way best pairOf differ pairCost rowAt row judged answered leaves allBits largest unreached trellisViewed
+unfolding allHold table tab tabFrom add zeros ones digits occurs product lower divide remainder parity speechG accessG back first second codedAt coded placeOf eOf eAt speechP speechUAt speechU speechBlock colour accessU accessBurst from bit way best pairOf differ pairCost rowAt row judged tells sentOr allBits largest unreached trellisViewed
 examples = refl

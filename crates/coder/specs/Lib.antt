@@ -1,5 +1,4 @@
 pub mod Blocks
-pub mod Answers
 pub mod Entries
 pub mod Received
 pub mod Promises

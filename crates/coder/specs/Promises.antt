@@ -3,21 +3,14 @@ use mathlib.Core.List.{List, _++_}
 use mathlib.Core.Option.{Option, none, some}
 use mathlib.Core.Path.{_≡_}
 use Prim.Native.Nat.{ℕ, _≤_}
-use lib.ListN.{length, take, drop}
-use Rattle.bits.specs.Bits.{Bits}
+use lib.ListN.{take, drop}
 use Rattle.trellis.specs.Nearest.{disagreements}
 use Rattle.burst.specs.Places.{gathered}
-use Rattle.coder.specs.Answers.{Answer, numberGiven}
-use Rattle.coder.specs.Entries.{speechSent, controlSent, sacchSent, accessSent, schSent}
-use Rattle.coder.specs.Received.{numberHeard, countHeard, speechReceived, controlReceived, sacchReceived, accessReceived, schReceived}
-use Rattle.coder.specs.declared.Heard.{Heard}
-use Rattle.coder.specs.declared.Told.{Told}
-
--- n bits to read, and a lent buffer of m bytes
-pub record Given (n m : ℕ) (d out : List ℕ) : Type 0 where
-  pub reads : length d ≡ n
-  pub bits : Bits d
-  pub lends : length out ≡ m
+use Rattle.answers.specs.Answers.{Answer, returned, ofTold, ofHeard}
+use Rattle.answers.specs.declared.Heard.{Heard}
+use Rattle.answers.specs.declared.Told.{Told}
+use Rattle.coder.specs.Entries.{Given, speechSent, controlSent, sacchSent, accessSent, schSent}
+use Rattle.coder.specs.Received.{speechReceived, controlReceived, sacchReceived, accessReceived, schReceived}
 
 -- how many of the protected bits of what was sent are altered in what arrived
 abbrev pub altered : (List ℕ → List ℕ) → List ℕ → List ℕ → ℕ
@@ -25,7 +18,7 @@ altered protected sent arrived = disagreements (protected arrived) (protected se
 
 -- what a receiving entry returns, in 01's number and count, and what the buffer then holds
 abbrev pub Returns : Answer Heard → Option ℕ → Option ℕ → List ℕ → Type 0
-Returns a number count left = (numberHeard (a .told) ≡ number) × (countHeard (a .told) ≡ count) × (a .left ≡ left)
+Returns a number count left = (ofHeard (a .result) ≡ returned number count) × (a .left ≡ left)
 
 -- good: no number, this count, these bits handed over; found bad: 8, this count, the buffer as before
 abbrev pub Accepts : Answer Heard → ℕ → List ℕ → Type 0
@@ -39,7 +32,7 @@ FindsBad a count before = Returns a (some 8) (some count) before
 abbrev pub ComesBack : ℕ → ℕ → (List ℕ → List ℕ → Answer Told) → (List ℕ → List ℕ → Answer Heard) → (List ℕ → List ℕ) → (List ℕ → List ℕ → List ℕ) → Type 0
 ComesBack n m send receive protected handed =
     (d c e out : List ℕ) → Given n m d c → Given m n e out → altered protected (send d c .left) e ≤ 3
-    → (numberGiven (send d c .told) ≡ none) × Accepts (receive e out) (altered protected (send d c .left) e) (handed d e)
+    → (ofTold (send d c .result) ≡ returned none none) × Accepts (receive e out) (altered protected (send d c .left) e) (handed d e)
 
 -- every bit is protected; the bits are those that were sent
 abbrev pub whole : List ℕ → List ℕ

@@ -1,7 +1,6 @@
 -- What is received: the nearest block to the protected bits, the verdict of the parity bits within it, the bits to hand over.
 use mathlib.Core.Bool.{Bool}
 use mathlib.Core.List.{List, _++_}
-use mathlib.Core.Option.{Option, none, some}
 use Prim.Native.Nat.{ℕ, _+_, _-_, _/_, _%_}
 use lib.Dec.{eqb, leb}
 use lib.ListN.{length, getD, take, drop}
@@ -9,12 +8,12 @@ use Rattle.bits.specs.Bits.{pick, tab, add, ones, digits, value, allBits}
 use Rattle.parity.specs.Division.{remainder, speechG, controlG, accessG, schG}
 use Rattle.trellis.specs.Nearest.{nearest, nearestCount}
 use Rattle.burst.specs.Places.{gathered}
-use Rattle.coder.specs.Answers.{Answer, judged, numberOf}
-use Rattle.coder.specs.Entries.{lengths}
-use Rattle.coder.specs.declared.Heard.{Heard}
-use Rattle.coder.specs.declared.Heard.the-variants as heard
-use Rattle.coder.specs.declared.Told.{Told}
-use Rattle.coder.specs.declared.Told.the-variants as told
+use Rattle.answers.specs.Answers.{Answer, hears}
+use Rattle.answers.specs.declared.Heard.{Heard}
+use Rattle.answers.specs.declared.Heard.the-variants as heard
+use Rattle.answers.specs.declared.Told.{Told}
+use Rattle.answers.specs.declared.Told.the-variants as told
+use Rattle.coder.specs.Entries.{judged, lengths}
 
 -- is what division of w by g leaves all ones? (01, Coding rules)
 unfoldable pub allOnes : List ℕ → List ℕ → Bool
@@ -48,32 +47,17 @@ speechHeard c =
 unfoldable pub verdict : Hearing → Heard
 verdict h = pick (h .good) (heard.Good (h .count)) (heard.Bad (h .count))
 
+-- good: the bits are handed over; else the buffer stands as before
+unfoldable pub hands : Hearing → List ℕ → Answer Heard
+hands h d = hears (verdict h) (h .bits) d
+
 unfoldable pub hearing : Told → Hearing → Heard
 hearing told.Done h = verdict h
 hearing (told.Refused r) h = heard.Refused r
 
--- good: the bits are handed over; else the buffer stands as before
-unfoldable pub hands : Heard → List ℕ → List ℕ → List ℕ
-hands (heard.Good n) bits before = bits
-hands (heard.Refused r) bits before = before
-hands (heard.Bad n) bits before = before
-
--- 01's number and count: good gives a count and no number, a refusal its number, a bad parity 8 and the count
-abbrev pub numberHeard : Heard → Option ℕ
-numberHeard (heard.Good n) = none
-numberHeard (heard.Refused r) = some (numberOf r)
-numberHeard (heard.Bad n) = some 8
-
-abbrev pub countHeard : Heard → Option ℕ
-countHeard (heard.Good n) = some n
-countHeard (heard.Refused r) = none
-countHeard (heard.Bad n) = some n
-
 -- an entry that reads n bits c, and an identity, and hands over m bits into a buffer that held d
 unfoldable pub reception : ℕ → ℕ → ℕ → List ℕ → Hearing → List ℕ → Answer Heard
-reception n m identity c h d =
-    let r : Heard = hearing (judged (lengths c n d m) (allBits c) (leb identity 63)) h in
-    record { told = r; left = hands r (h .bits) d }
+reception n m identity c h d = hears (hearing (judged (lengths c n d m) (allBits c) (leb identity 63)) h) (h .bits) d
 
 -- speech block: 456 to 260
 unfoldable pub speechReceived : List ℕ → List ℕ → Answer Heard

@@ -1,4 +1,5 @@
-pub mod Answers
+pub mod Entries
+pub mod Format
 pub mod Protected
 pub mod Blocks
 pub mod Speech
@@ -9,4 +10,5 @@ pub mod Heard
 pub mod SpeechHeard
 pub mod Restored
 pub mod SpeechRestored
+pub mod Hearings
 pub mod Promises

@@ -1,21 +1,53 @@
-// u of the blocks whose parity bits stand after d: control, access and SCH (000, 4.1.2, 4.6, 4.7).
-use crate::Heard;
+// The blocks whose parity bits stand after d: control, access and SCH (000, 4.1.2, 4.6, 4.7).
+use answers::Heard;
+use trellis::LONGEST;
 ghost use mathlib.Core.List.{_++_};
 ghost use mathlib.Core.Path.{_≡_};
-ghost use Prim.Native.Nat.{_+_, _-_, _≤_, _<_, _^_};
+ghost use Prim.Native.Nat.{_-_, _≤_, _<_, _^_};
 ghost use lib.Bits.{bitXor};
 ghost use lib.Dec.{eqb};
-ghost use lib.ListN.{length};
+ghost use lib.ListN.{length, drop};
+ghost use Rattle.answers.specs.Answers.{Meets};
 ghost use Rattle.bits.specs.Bits.{Bits, digits, value, ones, zeros};
-ghost use Rattle.parity.specs.Division.{parity, remainder};
-ghost use Rattle.parity.specs.Asked.{Divisible};
+ghost use Rattle.parity.specs.Asked.{Generates};
+ghost use Rattle.parity.specs.Division.{remainder};
+ghost use Rattle.trellis.specs.Nearest.{nearest, nearestCount, longest};
 ghost use Rattle.trellis.specs.Pairs.{coded};
-ghost use Rattle.coder.specs.laws.Protected.{Protectable, Codable};
-ghost use Rattle.coder.specs.laws.Heard.{Readable, HandedOver};
-ghost use Rattle.coder.specs.Received.{blockHeard};
+ghost use Rattle.coder.specs.Entries.{Given};
+ghost use Rattle.coder.specs.Received.{blockHeard, hands};
+ghost use Rattle.coder.specs.laws.Format.{Fits, size, generatorOf, laidOut};
+
+// What such a block is: its generator, D^degree + generator, its bits, and its coded bits.
+pub(crate) struct Format {
+    generator: u64,
+    degree: u32,
+    pub(crate) bits: usize,
+    pub(crate) coded: usize,
+}
+
+pub(crate) const CONTROL: Format = Format {
+    generator: parity::CONTROL,
+    degree: 40,
+    bits: 184,
+    coded: 456,
+};
+
+pub(crate) const ACCESS: Format = Format {
+    generator: parity::ACCESS,
+    degree: 6,
+    bits: 8,
+    coded: 36,
+};
+
+pub(crate) const SCH: Format = Format {
+    generator: parity::SCH,
+    degree: 10,
+    bits: 25,
+    coded: 78,
+};
 
 // d, then ones up to place m, then zeros.
-pub(crate) fn lay(d: &[u8], m: usize, u: &mut [u8])
+pub(crate) fn append_ones(d: &[u8], m: usize, u: &mut [u8])
     requires { ⌜ (length (now d) ≤ m) × (m ≤ length (now u)) ⌝ }
     ensures { λ _. ⌜ now (u .exit) ≡ now (d .entry) ++ (ones (m - length (now (d .entry))) ++ zeros (length (now (u .entry)) - m)) ⌝ }
 {
@@ -27,34 +59,34 @@ pub(crate) fn lay(d: &[u8], m: usize, u: &mut [u8])
 }
 
 // d, its parity bits with the colour added, and four zeros. The parity bits are what d followed by ones leaves.
-pub(crate) fn protect(generator: u64, degree: u32, colour: u64, d: &[u8], u: &mut [u8])
-    requires { ⌜ Protectable generator degree (now d) (now u) ⌝ }
-    ensures { λ _. ⌜ now (u .exit) ≡ now (d .entry) ++ (digits degree (bitXor (value (parity (digits degree generator) (now (d .entry)))) colour) ++ zeros 4) ⌝ }
+fn protect(f: Format, colour: u64, d: &[u8], u: &mut [u8])
+    requires { ⌜ (Fits f) × (Bits (now d)) × (length (now d) ≡ f .bits) × (length (now u) ≡ size f) ⌝ }
+    ensures { λ _. ⌜ now (u .exit) ≡ laidOut f colour (now (d .entry)) ⌝ }
 {
     let n = d.len();
-    let m = n + degree as usize;
-    lay(d, m, u);
-    let p = parity::remainder(generator, degree, &u[0..m]);
+    let m = n + f.degree as usize;
+    append_ones(d, m, u);
+    let p = parity::remainder(f.generator, f.degree, &u[0..m]);
     bits::put_digits(p ^ colour, &mut u[n..m]);
 }
 
-// The pairs of that u, which is laid out in `u`.
-fn code_over(generator: u64, degree: u32, colour: u64, d: &[u8], u: &mut [u8], c: &mut [u8])
-    requires { ⌜ (Codable generator degree (now d) (now c)) × (length (now u) ≡ length (now d) + degree + 4) ⌝ }
-    ensures { λ _. ⌜ now (c .exit) ≡ coded (now (d .entry) ++ (digits degree (bitXor (value (parity (digits degree generator) (now (d .entry)))) colour) ++ zeros 4)) ⌝ }
+// The pairs of that u.
+pub(crate) fn code(f: Format, colour: u64, d: &[u8], c: &mut [u8])
+    requires { ⌜ (Fits f) × Given (f .bits) (f .coded) (now d) (now c) ⌝ }
+    ensures { λ _. ⌜ now (c .exit) ≡ coded (laidOut f colour (now (d .entry))) ⌝ }
 {
-    protect(generator, degree, colour, d, u);
-    trellis::code(u, c);
+    let l = f.bits + f.degree as usize + 4;
+    let mut u = [0u8; LONGEST];
+    protect(f, colour, d, &mut u[0..l]);
+    trellis::code(&u[0..l], c);
 }
 
-// The pairs of u: d, its parity bits with the colour added, and four zeros.
-pub(crate) fn code(generator: u64, degree: u32, colour: u64, d: &[u8], c: &mut [u8])
-    requires { ⌜ Codable generator degree (now d) (now c) ⌝ }
-    ensures { λ _. ⌜ now (c .exit) ≡ coded (now (d .entry) ++ (digits degree (bitXor (value (parity (digits degree generator) (now (d .entry)))) colour) ++ zeros 4)) ⌝ }
+// THE nearest block to c, u, in the first places of u, and in how many places its pairs disagree with c.
+pub(crate) fn decode(f: Format, c: &[u8], u: &mut [u8; LONGEST]) -> u16
+    requires { ⌜ (Fits f) × (Bits (now c)) × (length (now c) ≡ f .coded) × (length (now u) ≡ longest) ⌝ }
+    ensures { λ r. ⌜ (now (u .exit) ≡ nearest (now (c .entry)) (size f) ++ drop (size f) (now (u .entry))) × (r ≡ nearestCount (now (c .entry)) (size f)) × (length (now (u .exit)) ≡ longest) ⌝ }
 {
-    let l = d.len() + degree as usize + 4;
-    let mut u = [0u8; 228];
-    code_over(generator, degree, colour, d, &mut u[0..l], c);
+    trellis::nearest(c, f.bits + f.degree as usize + 4, u)
 }
 
 // What all ones are as a number of `degree` bits.
@@ -67,40 +99,24 @@ fn all_ones(degree: u32) -> u64
 
 // Does division leave all ones of w, the parity bits at its end having the colour added?
 pub(crate) fn leaves_ones(generator: u64, degree: u32, colour: u64, w: &[u8]) -> bool
-    requires { ⌜ Divisible generator degree (now w) ⌝ }
+    requires { ⌜ (Generates generator degree) × (degree ≤ length (now w)) × Bits (now w) ⌝ }
     ensures { λ r. ⌜ r ≡ eqb (bitXor (value (remainder (digits degree generator) (now (w .entry)))) colour) (2 ^ degree - 1) ⌝ }
 {
     parity::remainder(generator, degree, w) ^ colour == all_ones(degree)
 }
 
-// The nearest block to c, which is laid out in `u`; its first bits are handed over where the parity bits within it are good.
-fn read_over(
-    generator: u64,
-    degree: u32,
-    colour: u64,
-    c: &[u8],
-    u: &mut [u8],
-    d: &mut [u8],
-) -> Heard
-    requires { ⌜ (Readable generator degree colour (now c) (now d)) × (length (now u) ≡ length (now d) + degree + 4) ⌝ }
-    ensures { λ r. ⌜ HandedOver (blockHeard (digits degree generator) colour (length (now (d .entry))) (now (c .entry))) (now (d .entry)) r (now (d .exit)) ⌝ }
+// The nearest block to c: its first bits are handed over where the parity bits within it, the colour added once more, are good.
+pub(crate) fn receive(f: Format, colour: u64, c: &[u8], d: &mut [u8]) -> Heard
+    requires { ⌜ (Fits f) × (Given (f .coded) (f .bits) (now c) (now d)) × (colour < 2 ^ f .degree) ⌝ }
+    ensures { λ r. ⌜ Meets (hands (blockHeard (generatorOf f) colour (f .bits) (now (c .entry))) (now (d .entry))) r (now (d .exit)) ⌝ }
 {
     let n = d.len();
-    let m = n + degree as usize;
-    let count = trellis::nearest(c, u);
-    if leaves_ones(generator, degree, colour, &u[0..m]) {
+    let m = n + f.degree as usize;
+    let mut u = [0u8; LONGEST];
+    let count = decode(f, c, &mut u);
+    if leaves_ones(f.generator, f.degree, colour, &u[0..m]) {
         bits::copy(&u[0..n], d);
         return Heard::Good(count);
     }
     Heard::Bad(count)
-}
-
-// The nearest block to c; its first bits are handed over where the parity bits within it are good.
-pub(crate) fn read(generator: u64, degree: u32, colour: u64, c: &[u8], d: &mut [u8]) -> Heard
-    requires { ⌜ Readable generator degree colour (now c) (now d) ⌝ }
-    ensures { λ r. ⌜ HandedOver (blockHeard (digits degree generator) colour (length (now (d .entry))) (now (c .entry))) (now (d .entry)) r (now (d .exit)) ⌝ }
-{
-    let l = d.len() + degree as usize + 4;
-    let mut u = [0u8; 228];
-    read_over(generator, degree, colour, c, &mut u[0..l], d)
 }

@@ -3,41 +3,20 @@ mod block;
 mod sacch;
 mod speech;
 
+use answers::Heard;
+use answers::Refusal;
+use answers::Told;
+use block::Format;
 ghost use mathlib.Core.Path.{_≡_};
 ghost use lib.Dec.{eqb, leb};
 ghost use lib.ListN.{length};
-ghost use Rattle.bits.specs.Bits.{allBits, both, digits};
-ghost use Rattle.coder.specs.Answers.{Meets, judged, numberOf};
-ghost use Rattle.coder.specs.Entries.{entry, speechSent, controlSent, sacchSent, accessSent, schSent, unreached, trellisViewed};
+ghost use Rattle.answers.specs.Answers.{Meets};
+ghost use Rattle.answers.specs.declared.Told.the-variants.{Refused};
+ghost use Rattle.bits.specs.Bits.{allBits, both};
+ghost use Rattle.trellis.specs.Pairs.{coded};
+ghost use Rattle.coder.specs.Entries.{judged, entry, speechSent, controlSent, sacchSent, accessSent, schSent, unreached, trellisViewed};
 ghost use Rattle.coder.specs.Received.{blockHeard, reception, speechReceived, controlReceived, sacchReceived, accessReceived, schReceived};
-ghost use Rattle.coder.specs.laws.Blocks.{codedBlock};
-ghost use Rattle.coder.specs.laws.Protected.{Fits};
-ghost use Rattle.coder.specs.declared.Told.the-variants.{Refused};
-
-// Why a call is refused (01, Numbers given for a no).
-pub enum Refusal {
-    // 1: a lent buffer has another length than the table says
-    Length,
-    // 2: a byte that is read as a bit is over 1
-    NotBits,
-    // 3: the identity is over 63
-    Identity,
-}
-
-// What an entry says of its call.
-pub enum Told {
-    Done,
-    Refused(Refusal),
-}
-
-// What a receiving entry says of its call.
-pub enum Heard {
-    // the block, and in how many places it disagrees with what was received
-    Good(u16),
-    Refused(Refusal),
-    // 8: the parity is bad; with the count
-    Bad(u16),
-}
+ghost use Rattle.coder.specs.laws.Format.{Fits, generatorOf, laidOut};
 
 // The trellis view: the sixteen numbers by state; all are 65,535 where the call is refused.
 pub struct View {
@@ -45,16 +24,8 @@ pub struct View {
     pub row: [u16; 16],
 }
 
-// 01's number of a refusal.
-pub fn number(r: Refusal) -> u8
-    ensures { λ n. ⌜ n ≡ numberOf r ⌝ }
-{
-    match r {
-        Refusal::Length => 1,
-        Refusal::NotBits => 2,
-        Refusal::Identity => 3,
-    }
-}
+// The view reads at most 228 pairs, however long a block may be.
+const VIEWED: usize = 228;
 
 // The first refusal that applies to an entry that reads `reads` bits into `writes` bytes, or none.
 fn judge(d: &[u8], reads: usize, out: usize, writes: usize, identity: u8) -> Told
@@ -75,42 +46,26 @@ fn judge(d: &[u8], reads: usize, out: usize, writes: usize, identity: u8) -> Tol
     Told::Done
 }
 
-// An entry for a block of n bits whose parity stands at its end: n bits to m, the identity added to the parity.
-fn send_block(
-    generator: u64,
-    degree: u32,
-    identity: u8,
-    n: usize,
-    m: usize,
-    d: &[u8],
-    c: &mut [u8],
-) -> Told
-    requires { ⌜ Fits generator degree n m ⌝ }
-    ensures { λ r. ⌜ Meets (entry n m identity (now (d .entry)) (codedBlock generator degree identity (now (d .entry))) (now (c .entry))) r (now (c .exit)) ⌝ }
+// An entry for a block whose parity stands at its end, the identity added to it.
+fn send_block(f: Format, identity: u8, d: &[u8], c: &mut [u8]) -> Told
+    requires { ⌜ Fits f ⌝ }
+    ensures { λ r. ⌜ Meets (entry (f .bits) (f .coded) identity (now (d .entry)) (coded (laidOut f identity (now (d .entry)))) (now (c .entry))) r (now (c .exit)) ⌝ }
 {
-    let told = judge(d, n, c.len(), m, identity);
+    let told = judge(d, f.bits, c.len(), f.coded, identity);
     if let Told::Done = told {
-        block::code(generator, degree, identity as u64, d, c);
+        block::code(f, identity as u64, d, c);
     }
     told
 }
 
-// The same block received: m bits to n.
-fn receive_block(
-    generator: u64,
-    degree: u32,
-    identity: u8,
-    n: usize,
-    m: usize,
-    c: &[u8],
-    d: &mut [u8],
-) -> Heard
-    requires { ⌜ Fits generator degree n m ⌝ }
-    ensures { λ r. ⌜ Meets (reception m n identity (now (c .entry)) (blockHeard (digits degree generator) identity n (now (c .entry))) (now (d .entry))) r (now (d .exit)) ⌝ }
+// The same block received.
+fn receive_block(f: Format, identity: u8, c: &[u8], d: &mut [u8]) -> Heard
+    requires { ⌜ Fits f ⌝ }
+    ensures { λ r. ⌜ Meets (reception (f .coded) (f .bits) identity (now (c .entry)) (blockHeard (generatorOf f) identity (f .bits) (now (c .entry))) (now (d .entry))) r (now (d .exit)) ⌝ }
 {
-    let told = judge(c, m, d.len(), n, identity);
+    let told = judge(c, f.coded, d.len(), f.bits, identity);
     match told {
-        Told::Done => block::read(generator, degree, identity as u64, c, d),
+        Told::Done => block::receive(f, identity as u64, c, d),
         Told::Refused(why) => Heard::Refused(why),
     }
 }
@@ -130,7 +85,7 @@ pub fn send_speech(d: &[u8], c: &mut [u8]) -> Told
 pub fn send_control(d: &[u8], c: &mut [u8]) -> Told
     ensures { λ r. ⌜ Meets (controlSent (now (d .entry)) (now (c .entry))) r (now (c .exit)) ⌝ }
 {
-    send_block(parity::CONTROL, 40, 0, 184, 456, d, c)
+    send_block(block::CONTROL, 0, d, c)
 }
 
 // SACCH message: 184 bits to four bursts, 464.
@@ -139,7 +94,7 @@ pub fn send_sacch(d: &[u8], e: &mut [u8]) -> Told
 {
     let told = judge(d, 184, e.len(), 464, 0);
     if let Told::Done = told {
-        sacch::spread(d, e);
+        sacch::code(d, e);
     }
     told
 }
@@ -148,14 +103,14 @@ pub fn send_sacch(d: &[u8], e: &mut [u8]) -> Told
 pub fn send_access(identity: u8, d: &[u8], e: &mut [u8]) -> Told
     ensures { λ r. ⌜ Meets (accessSent identity (now (d .entry)) (now (e .entry))) r (now (e .exit)) ⌝ }
 {
-    send_block(parity::ACCESS, 6, identity, 8, 36, d, e)
+    send_block(block::ACCESS, identity, d, e)
 }
 
 // SCH: 25 bits to 78.
 pub fn send_sch(d: &[u8], e: &mut [u8]) -> Told
     ensures { λ r. ⌜ Meets (schSent (now (d .entry)) (now (e .entry))) r (now (e .exit)) ⌝ }
 {
-    send_block(parity::SCH, 10, 0, 25, 78, d, e)
+    send_block(block::SCH, 0, d, e)
 }
 
 // Speech block received: 456 bits to 260.
@@ -164,7 +119,7 @@ pub fn receive_speech(c: &[u8], d: &mut [u8]) -> Heard
 {
     let told = judge(c, 456, d.len(), 260, 0);
     match told {
-        Told::Done => speech::read(c, d),
+        Told::Done => speech::receive(c, d),
         Told::Refused(why) => Heard::Refused(why),
     }
 }
@@ -173,7 +128,7 @@ pub fn receive_speech(c: &[u8], d: &mut [u8]) -> Heard
 pub fn receive_control(c: &[u8], d: &mut [u8]) -> Heard
     ensures { λ r. ⌜ Meets (controlReceived (now (c .entry)) (now (d .entry))) r (now (d .exit)) ⌝ }
 {
-    receive_block(parity::CONTROL, 40, 0, 184, 456, c, d)
+    receive_block(block::CONTROL, 0, c, d)
 }
 
 // SACCH message received: four bursts, 464 bits, to 184.
@@ -182,7 +137,7 @@ pub fn receive_sacch(e: &[u8], d: &mut [u8]) -> Heard
 {
     let told = judge(e, 464, d.len(), 184, 0);
     match told {
-        Told::Done => sacch::read(e, d),
+        Told::Done => sacch::receive(e, d),
         Told::Refused(why) => Heard::Refused(why),
     }
 }
@@ -191,14 +146,14 @@ pub fn receive_sacch(e: &[u8], d: &mut [u8]) -> Heard
 pub fn receive_access(identity: u8, e: &[u8], d: &mut [u8]) -> Heard
     ensures { λ r. ⌜ Meets (accessReceived identity (now (e .entry)) (now (d .entry))) r (now (d .exit)) ⌝ }
 {
-    receive_block(parity::ACCESS, 6, identity, 8, 36, e, d)
+    receive_block(block::ACCESS, identity, e, d)
 }
 
 // SCH received: 78 bits to 25.
 pub fn receive_sch(e: &[u8], d: &mut [u8]) -> Heard
     ensures { λ r. ⌜ Meets (schReceived (now (e .entry)) (now (d .entry))) r (now (d .exit)) ⌝ }
 {
-    receive_block(parity::SCH, 10, 0, 25, 78, e, d)
+    receive_block(block::SCH, 0, e, d)
 }
 
 // Trellis view: 2t received bits, t from 0 to 228, to the fewest disagreements of any t bits that end in each state.
@@ -208,7 +163,7 @@ pub fn view_trellis(r: &[u8]) -> View
     if r.len() % 2 != 0 {
         return unseen(Refusal::Length);
     }
-    if r.len() > 456 {
+    if r.len() > 2 * VIEWED {
         return unseen(Refusal::Length);
     }
     if !bits::are_bits(r) {

@@ -1,30 +1,31 @@
 // A SACCH message: one control block over four bursts (000, 4.1.4, 4.1.5).
-use crate::Heard;
+use crate::block::CONTROL;
+use answers::Heard;
 ghost use mathlib.Core.Path.{_≡_};
 ghost use lib.ListN.{length};
 ghost use Rattle.bits.specs.Bits.{Bits};
 ghost use Rattle.coder.specs.Blocks.{sacchMessage};
 ghost use Rattle.burst.specs.Places.{gathered};
 ghost use Rattle.parity.specs.Division.{controlG};
-ghost use Rattle.coder.specs.Received.{blockHeard};
-ghost use Rattle.coder.specs.laws.Heard.{HandedOver};
+ghost use Rattle.answers.specs.Answers.{Meets};
+ghost use Rattle.coder.specs.Received.{blockHeard, hands};
 
 // The control block of d, its even and odd places alike, with all flags 1.
-pub(crate) fn spread(d: &[u8], e: &mut [u8])
+pub(crate) fn code(d: &[u8], e: &mut [u8])
     requires { ⌜ (Bits (now d)) × (length (now d) ≡ 184) × (length (now e) ≡ 464) ⌝ }
     ensures { λ _. ⌜ now (e .exit) ≡ sacchMessage (now (d .entry)) ⌝ }
 {
     let mut c = [0u8; 456];
-    crate::block::code(parity::CONTROL, 40, 0, d, &mut c);
+    crate::block::code(CONTROL, 0, d, &mut c);
     burst::fill_four(&c, 1, &c, 1, e);
 }
 
 // The control block out of its four bursts; the flags are not used.
-pub(crate) fn read(e: &[u8], d: &mut [u8]) -> Heard
+pub(crate) fn receive(e: &[u8], d: &mut [u8]) -> Heard
     requires { ⌜ (Bits (now e)) × (length (now e) ≡ 464) × (length (now d) ≡ 184) ⌝ }
-    ensures { λ r. ⌜ HandedOver (blockHeard controlG 0 184 (gathered (now (e .entry)))) (now (d .entry)) r (now (d .exit)) ⌝ }
+    ensures { λ r. ⌜ Meets (hands (blockHeard controlG 0 184 (gathered (now (e .entry)))) (now (d .entry))) r (now (d .exit)) ⌝ }
 {
     let mut c = [0u8; 456];
     burst::gather_four(e, &mut c);
-    crate::block::read(parity::CONTROL, 40, 0, &c, d)
+    crate::block::receive(CONTROL, 0, &c, d)
 }

@@ -1,5 +1,6 @@
 // The speech block: class 1 reordered with its parity in the middle and coded, class 2 as it is (000, 3.1.2).
-use crate::Heard;
+use answers::Heard;
+use trellis::LONGEST;
 ghost use mathlib.Core.List.{_++_};
 ghost use mathlib.Core.Path.{_≡_};
 ghost use Prim.Native.Nat.{_<_};
@@ -7,8 +8,8 @@ ghost use lib.ListN.{length, take, drop};
 ghost use Rattle.bits.specs.Bits.{Bits, tab};
 ghost use Rattle.coder.specs.Blocks.{speechP, speechUAt, speechBlock};
 ghost use Rattle.parity.specs.Division.{speechG};
-ghost use Rattle.coder.specs.Received.{allOnes, speechDAt, speechHeard};
-ghost use Rattle.coder.specs.laws.Heard.{HandedOver};
+ghost use Rattle.answers.specs.Answers.{Meets};
+ghost use Rattle.coder.specs.Received.{allOnes, speechDAt, speechHeard, hands};
 ghost use Rattle.coder.specs.laws.Reordered.{Reordered};
 
 // p(0), p(1), p(2): what the first 50 bits followed by ones leave.
@@ -17,7 +18,7 @@ fn put_parity(d: &[u8], p: &mut [u8])
     ensures { λ _. ⌜ now (p .exit) ≡ speechP (now (d .entry)) ⌝ }
 {
     let mut w = [0u8; 53];
-    crate::block::lay(&d[0..50], 53, &mut w);
+    crate::block::append_ones(&d[0..50], 53, &mut w);
     bits::put_digits(parity::remainder(parity::SPEECH, 3, &w), p);
 }
 
@@ -99,15 +100,16 @@ fn hand_over(first: &[u8], c: &[u8], d: &mut [u8])
 }
 
 // The nearest block to the first 378 bits of c; it is handed over where its parity is good.
-pub(crate) fn read(c: &[u8], d: &mut [u8]) -> Heard
+pub(crate) fn receive(c: &[u8], d: &mut [u8]) -> Heard
     requires { ⌜ (Bits (now c)) × (length (now c) ≡ 456) × (length (now d) ≡ 260) ⌝ }
-    ensures { λ r. ⌜ HandedOver (speechHeard (now (c .entry))) (now (d .entry)) r (now (d .exit)) ⌝ }
+    ensures { λ r. ⌜ Meets (hands (speechHeard (now (c .entry))) (now (d .entry))) r (now (d .exit)) ⌝ }
 {
-    let mut u = [0u8; 189];
-    let count = trellis::nearest(&c[0..378], &mut u);
+    let mut whole = [0u8; LONGEST];
+    let count = trellis::nearest(&c[0..378], 189, &mut whole);
+    let u = &whole[0..189];
     let mut first = [0u8; 182];
-    fill_d(&u, &mut first);
-    if !is_good(&first, &u) {
+    fill_d(u, &mut first);
+    if !is_good(&first, u) {
         return Heard::Bad(count);
     }
     hand_over(&first, c, d);

@@ -1,10 +1,11 @@
 // Division of bits by a generator polynomial, on which all parity bits stand (01, Coding rules).
 ghost use mathlib.Core.Path.{_≡_};
 ghost use Prim.Native.Nat.{_≤_, _<_, _^_};
-ghost use Rattle.bits.specs.Bits.{value, digits};
-ghost use Rattle.parity.specs.Asked.{Divisible};
+ghost use lib.ListN.{length};
+ghost use Rattle.bits.specs.Bits.{Bits, value, digits};
+ghost use Rattle.parity.specs.Asked.{Generates};
 ghost use Rattle.parity.specs.Division.{remainder};
-ghost use Rattle.parity.specs.laws.Brought.{bringN};
+ghost use Rattle.parity.specs.laws.Brought.{broughtDown};
 
 // The generators below their leading power: D^3 + D + 1 is 011 (000, 3.1.2.1, 4.1.2, 4.6, 4.7).
 pub const SPEECH: u64 = 0b011;
@@ -24,9 +25,9 @@ fn power(degree: u32) -> u64
 }
 
 // The next bit is brought down. What then stands at D^degree, 0 or 1, is the quotient's next bit: so often the divisor is taken away.
-fn bring(generator: u64, degree: u32, held: u64, bit: u64) -> u64
+fn bring_down(generator: u64, degree: u32, held: u64, bit: u64) -> u64
     requires { ⌜ (degree ≤ 62) × (generator < 2 ^ degree) × (held < 2 ^ degree) × (bit ≤ 1) ⌝ }
-    ensures { λ r. ⌜ r ≡ bringN generator (2 ^ degree) held bit ⌝ }
+    ensures { λ r. ⌜ r ≡ broughtDown generator (2 ^ degree) held bit ⌝ }
 {
     let brought = 2 * held + bit;
     brought ^ ((power(degree) + generator) * (brought >> degree))
@@ -34,13 +35,13 @@ fn bring(generator: u64, degree: u32, held: u64, bit: u64) -> u64
 
 // What division of w by D^degree + generator leaves, as a number.
 pub fn remainder(generator: u64, degree: u32, w: &[u8]) -> u64
-    requires { ⌜ Divisible generator degree (now w) ⌝ }
+    requires { ⌜ (Generates generator degree) × (degree ≤ length (now w)) × Bits (now w) ⌝ }
     ensures { λ r. ⌜ r ≡ value (remainder (digits degree generator) (now (w .entry))) ⌝ }
 {
     let mut held = 0;
     let mut i = 0;
     while i < w.len() {
-        let next = bring(generator, degree, held, w[i] as u64);
+        let next = bring_down(generator, degree, held, w[i] as u64);
         held = next;
         i += 1;
     }

@@ -10,56 +10,27 @@ ghost use lib.ListN.{length};
 ghost use Rattle.bits.specs.Bits.{Bits};
 ghost use Rattle.trellis.specs.Pairs.{back, coded, first, pairOf, second};
 
+// At most 228 pairs, the longest block, are ever decoded.
+pub const LONGEST: usize = 228;
+
 // The handbook's table: for each state of the register, 0 to 15, the pair c(2k) c(2k+1) for next bit 0 and for next bit 1.
-const PAIRS: [u8; 32] = [
-    // state 0
-    0b00,
-    0b11,
-    // state 1
-    0b11,
-    0b00,
-    // state 2
-    0b11,
-    0b00,
-    // state 3
-    0b00,
-    0b11,
-    // state 4
-    0b00,
-    0b11,
-    // state 5
-    0b11,
-    0b00,
-    // state 6
-    0b11,
-    0b00,
-    // state 7
-    0b00,
-    0b11,
-    // state 8
-    0b01,
-    0b10,
-    // state 9
-    0b10,
-    0b01,
-    // state 10
-    0b10,
-    0b01,
-    // state 11
-    0b01,
-    0b10,
-    // state 12
-    0b01,
-    0b10,
-    // state 13
-    0b10,
-    0b01,
-    // state 14
-    0b10,
-    0b01,
-    // state 15
-    0b01,
-    0b10,
+const PAIRS: [[u8; 2]; 16] = [
+    [0b00, 0b11],
+    [0b11, 0b00],
+    [0b11, 0b00],
+    [0b00, 0b11],
+    [0b00, 0b11],
+    [0b11, 0b00],
+    [0b11, 0b00],
+    [0b00, 0b11],
+    [0b01, 0b10],
+    [0b10, 0b01],
+    [0b10, 0b01],
+    [0b01, 0b10],
+    [0b01, 0b10],
+    [0b10, 0b01],
+    [0b10, 0b01],
+    [0b01, 0b10],
 ];
 
 // The pair that bit b makes in state s.
@@ -67,7 +38,7 @@ pub fn pair(s: usize, b: usize) -> u8
     requires { ⌜ (s < 16) × (b ≤ 1) ⌝ }
     ensures { λ r. ⌜ r ≡ pairOf s b ⌝ }
 {
-    PAIRS[2 * s + b]
+    PAIRS[s][b]
 }
 
 // u(k-j), where u(k) = 0 for k < 0

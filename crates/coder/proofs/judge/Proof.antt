@@ -1,7 +1,7 @@
 -- `coder::judge` is right: each answer is the case of `judged` to which the tests on the way lead.
 use borrow.Author.Needs.{needs}
 use borrow.Author.Tests.{eq-eqb, ne-eqb, le-leb, lt-leb, not-true, not-false}
-use Rattle.coder.specs.Answers.{judged}
+use Rattle.coder.specs.Entries.{judged}
 use Rattle.coder.proofs.judge.Statement.{statement}
 use Rattle.coder.proofs.judge.Tie as tie
 

@@ -3,24 +3,24 @@ use borrow.Author.Needs.{needs}
 use Rattle.burst.specs.Places.{gathered}
 use Rattle.parity.specs.Division.{controlG}
 use Rattle.coder.specs.Received.{blockHeard, sacchReceived}
-use Rattle.coder.specs.laws.Answers.{done-ready}
+use Rattle.coder.specs.laws.Entries.{done-given}
 use Rattle.coder.specs.laws.Heard.{reception-done, reception-refused}
 use Rattle.coder.proofs.receive_sacch.Statement.{statement}
 use Rattle.coder.proofs.receive_sacch.Tie as tie
 
-read-requires : tie.Need-read-requires
-read-requires c κs =
+receive-requires : tie.Need-receive-requires
+receive-requires c κs =
     let s = c .before .before .before .before .before .before .args in
     let j = c .before .before .before .judge in
-    let ready = done-ready (s .e .now) (s .d .now) 464 184 0 (j .result) (j .ensures) (c .before .enum-told .given .1) in
-    (ready .bits, ready .reads, ready .writes)
+    let given = done-given (s .e .now) (s .d .now) 464 184 0 (j .result) (j .ensures) (c .before .enum-told .given .1) in
+    (given .bits, given .reads, given .lends)
 
 returns : tie.Need-returns
 unfolding sacchReceived
 returns c =
     let s = c .before .before .before .before .before .before .before .before .before .args in
     let j = c .before .before .before .before .before .before .judge in
-    let read = c .before .before .read in
+    let read = c .before .before .receive in
     reception-done 464 184 0 (s .e .now) (s .d .now) (blockHeard controlG 0 184 (gathered (s .e .now))) (j .result) (j .ensures) (read .result) (read .last .1 .0) (c .before .before .before .before .enum-told .given .1) (read .ensures)
 
 returns-2 : tie.Need-returns-2
@@ -36,7 +36,7 @@ receive-sacch-spec =
     (tie.spec
     (λ c κs. search needs)
     (λ c. search needs)
-    read-requires
+    receive-requires
     (λ c. search needs)
     (λ c. search needs)
     returns

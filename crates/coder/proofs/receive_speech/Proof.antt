@@ -1,24 +1,24 @@
 -- `coder::receive_speech` is right: where every test holds, the nearest block is read and judged; else the buffer stands as before.
 use borrow.Author.Needs.{needs}
 use Rattle.coder.specs.Received.{speechHeard, speechReceived}
-use Rattle.coder.specs.laws.Answers.{done-ready}
+use Rattle.coder.specs.laws.Entries.{done-given}
 use Rattle.coder.specs.laws.Heard.{reception-done, reception-refused}
 use Rattle.coder.proofs.receive_speech.Statement.{statement}
 use Rattle.coder.proofs.receive_speech.Tie as tie
 
-read-requires : tie.Need-read-requires
-read-requires c κs =
+receive-requires : tie.Need-receive-requires
+receive-requires c κs =
     let s = c .before .before .before .before .before .before .args in
     let j = c .before .before .before .judge in
-    let ready = done-ready (s .c .now) (s .d .now) 456 260 0 (j .result) (j .ensures) (c .before .enum-told .given .1) in
-    (ready .bits, ready .reads, ready .writes)
+    let given = done-given (s .c .now) (s .d .now) 456 260 0 (j .result) (j .ensures) (c .before .enum-told .given .1) in
+    (given .bits, given .reads, given .lends)
 
 returns : tie.Need-returns
 unfolding speechReceived
 returns c =
     let s = c .before .before .before .before .before .before .before .before .before .args in
     let j = c .before .before .before .before .before .before .judge in
-    let read = c .before .before .read in
+    let read = c .before .before .receive in
     reception-done 456 260 0 (s .c .now) (s .d .now) (speechHeard (s .c .now)) (j .result) (j .ensures) (read .result) (read .last .1 .0) (c .before .before .before .before .enum-told .given .1) (read .ensures)
 
 returns-2 : tie.Need-returns-2
@@ -34,7 +34,7 @@ receive-speech-spec =
     (tie.spec
     (λ c κs. search needs)
     (λ c. search needs)
-    read-requires
+    receive-requires
     (λ c. search needs)
     (λ c. search needs)
     returns

@@ -1,8 +1,8 @@
 -- `coder::send_block` is right: where every test holds, the block is written; else the buffer stands as before.
 use borrow.Author.Needs.{needs}
-use Rattle.coder.specs.laws.Answers.{done-ready, entry-done, entry-refused}
-use Rattle.coder.specs.laws.Blocks.{codedBlock}
-use Rattle.coder.specs.laws.Protected.{codable}
+use Rattle.trellis.specs.Pairs.{coded}
+use Rattle.coder.specs.laws.Entries.{done-given, entry-done, entry-refused}
+use Rattle.coder.specs.laws.Format.{laidOut}
 use Rattle.coder.proofs.send_block.Statement.{statement}
 use Rattle.coder.proofs.send_block.Tie as tie
 
@@ -11,23 +11,22 @@ code-requires c κs =
     let start = c .before .before .before .before .before .before in
     let s = start .args in
     let j = c .before .before .before .judge in
-    codable (start .pre) (done-ready (s .d .now) (s .c .now) (s .n) (s .m) (s .identity) (j .result) (j .ensures) (c .before .enum-told .given .1))
+    (start .pre, done-given (s .d .now) (s .c .now) (s .f .bits) (s .f .coded) (s .identity) (j .result) (j .ensures) (c .before .enum-told .given .1))
 
 returns : tie.Need-returns
 returns c =
     let s = c .before .before .before .before .before .before .before .before .before .args in
     let j = c .before .before .before .before .before .before .judge in
-    let told = c .before .before .before .before .enum-told .given .1 in
     let written = c .before .before .code in
-    entry-done (s .n) (s .m) (s .identity) (s .d .now) (codedBlock (s .generator) (s .degree) (s .identity) (s .d .now)) (s .c .now) (j .result) (j .ensures) (written .last .1 .1 .1 .1 .0) told (written .ensures)
+    entry-done (s .f .bits) (s .f .coded) (s .identity) (s .d .now) (coded (laidOut (s .f) (s .identity) (s .d .now))) (s .c .now) (j .result) (j .ensures)
+    (written .last .1 .1 .1 .0) (c .before .before .before .before .enum-told .given .1) (written .ensures)
 
 returns-2 : tie.Need-returns-2
 returns-2 c =
     let s = c .before .before .before .before .before .args in
     let j = c .before .before .judge in
-    entry-refused (s .n) (s .m) (s .identity) (s .d .now) (codedBlock (s .generator) (s .degree) (s .identity) (s .d .now)) (s .c .now) (j .result) (j .ensures) (c .enum-told2 .given .0 .0) (c .enum-told2 .given .1)
+    entry-refused (s .f .bits) (s .f .coded) (s .identity) (s .d .now) (coded (laidOut (s .f) (s .identity) (s .d .now))) (s .c .now) (j .result) (j .ensures)
+    (c .enum-told2 .given .0 .0) (c .enum-told2 .given .1)
 
 pub send-block-spec : {M : Type 1} → statement M
-send-block-spec =
-    tie.close
-    (tie.spec (λ c κs. search needs) (λ c. search needs) code-requires (λ c. search needs) (λ c. search needs) returns returns-2)
+send-block-spec = tie.close (tie.spec (λ c κs. search needs) (λ c. search needs) code-requires (λ c. search needs) (λ c. search needs) returns returns-2)

@@ -2,16 +2,16 @@
 use borrow.Author.Needs.{needs}
 use Rattle.coder.specs.Blocks.{sacchMessage}
 use Rattle.coder.specs.Entries.{sacchSent}
-use Rattle.coder.specs.laws.Answers.{done-ready, entry-done, entry-refused}
+use Rattle.coder.specs.laws.Entries.{done-given, entry-done, entry-refused}
 use Rattle.coder.proofs.send_sacch.Statement.{statement}
 use Rattle.coder.proofs.send_sacch.Tie as tie
 
-spread-requires : tie.Need-spread-requires
-spread-requires c κs =
+code-requires : tie.Need-code-requires
+code-requires c κs =
     let s = c .before .before .before .before .before .before .args in
     let j = c .before .before .before .judge in
-    let ready = done-ready (s .d .now) (s .e .now) 184 464 0 (j .result) (j .ensures) (c .before .enum-told .given .1) in
-    (ready .bits, ready .reads, ready .writes)
+    let given = done-given (s .d .now) (s .e .now) 184 464 0 (j .result) (j .ensures) (c .before .enum-told .given .1) in
+    (given .bits, given .reads, given .lends)
 
 returns : tie.Need-returns
 unfolding sacchSent
@@ -19,8 +19,7 @@ returns c =
     let s = c .before .before .before .before .before .before .before .before .before .args in
     let j = c .before .before .before .before .before .before .judge in
     let told = c .before .before .before .before .enum-told .given .1 in
-    let ready = done-ready (s .d .now) (s .e .now) 184 464 0 (j .result) (j .ensures) told in
-    let written = c .before .before .spread in
+    let written = c .before .before .code in
     entry-done 184 464 0 (s .d .now) (sacchMessage (s .d .now)) (s .e .now) (j .result) (j .ensures) (written .last .1 .0) told (written .ensures)
 
 returns-2 : tie.Need-returns-2
@@ -33,4 +32,4 @@ returns-2 c =
 pub send-sacch-spec : {M : Type 1} → statement M
 send-sacch-spec =
     tie.close
-    (tie.spec (λ c κs. search needs) (λ c. search needs) spread-requires (λ c. search needs) (λ c. search needs) returns returns-2)
+    (tie.spec (λ c κs. search needs) (λ c. search needs) code-requires (λ c. search needs) (λ c. search needs) returns returns-2)

@@ -2,7 +2,7 @@
 use borrow.Author.Needs.{needs}
 use Rattle.coder.specs.Blocks.{speechBlock}
 use Rattle.coder.specs.Entries.{speechSent}
-use Rattle.coder.specs.laws.Answers.{done-ready, entry-done, entry-refused}
+use Rattle.coder.specs.laws.Entries.{done-given, entry-done, entry-refused}
 use Rattle.coder.proofs.send_speech.Statement.{statement}
 use Rattle.coder.proofs.send_speech.Tie as tie
 
@@ -10,8 +10,8 @@ code-requires : tie.Need-code-requires
 code-requires c κs =
     let s = c .before .before .before .before .before .before .args in
     let j = c .before .before .before .judge in
-    let ready = done-ready (s .d .now) (s .c .now) 260 456 0 (j .result) (j .ensures) (c .before .enum-told .given .1) in
-    (ready .bits, ready .reads, ready .writes)
+    let given = done-given (s .d .now) (s .c .now) 260 456 0 (j .result) (j .ensures) (c .before .enum-told .given .1) in
+    (given .bits, given .reads, given .lends)
 
 returns : tie.Need-returns
 unfolding speechSent
@@ -19,7 +19,6 @@ returns c =
     let s = c .before .before .before .before .before .before .before .before .before .args in
     let j = c .before .before .before .before .before .before .judge in
     let told = c .before .before .before .before .enum-told .given .1 in
-    let ready = done-ready (s .d .now) (s .c .now) 260 456 0 (j .result) (j .ensures) told in
     let written = c .before .before .code in
     entry-done 260 456 0 (s .d .now) (speechBlock (s .d .now)) (s .c .now) (j .result) (j .ensures) (written .last .1 .0) told (written .ensures)
 

@@ -1,9 +1,9 @@
 -- `coder::view_trellis` is right: each refusal is the case of `judged` to which the tests on the way lead, and else the row is seen.
 use borrow.Author.Needs.{needs}
 use borrow.Author.Tests.{eq-eqb, ne-eqb, le-leb, lt-leb, not-true, not-false}
-use Rattle.coder.specs.Answers.{judged}
-use Rattle.coder.specs.declared.Refusal.the-variants.{Length, NotBits}
-use Rattle.coder.specs.laws.Answers.{view-refused, view-done}
+use Rattle.coder.specs.Entries.{judged}
+use Rattle.answers.specs.declared.Refusal.the-variants.{Length, NotBits}
+use Rattle.coder.specs.laws.Entries.{view-refused, view-done}
 use Rattle.bits.specs.laws.Check.{all-bits}
 use mathlib.Core.Path.{sym, _∙_}
 use Rattle.coder.proofs.view_trellis.Statement.{statement}
@@ -57,6 +57,7 @@ view-trellis-spec =
     (tie.spec
     (λ c κs. search needs)
     returns
+    (λ c. search needs)
     (λ c κs. search needs)
     returns-2
     (λ c κs. search needs)

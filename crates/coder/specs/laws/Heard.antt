@@ -1,14 +1,14 @@
--- What `coder::block::read` asks and needs: the verdict by a number.
+-- What `coder::block::receive` needs: the nearest block at the front of a buffer, the verdict by a number, and how a receiving entry ends.
 use mathlib.Core.Bool.{Bool, true, false}
 use mathlib.Core.List.{List, _++_}
 use mathlib.Core.Path.{_≡_, refl, sym, ap, ap₂, _∙_, subst}
 use Prim.Native.Nat.{ℕ, zero, suc, _+_, _-_, _*_, _%_, _≤_, _<_, _^_}
 use native.Mathlib.Omega.{arith}
 use lib.Bits.{bitXor}
-use lib.Dec.{eqb, leb, lit<, lit≤}
+use lib.Dec.{eqb, leb}
 use lib.ListN.{length, take, drop}
-use lib.Seq.{length-take-le, take-add, getD-drop}
-use lib.Pow.{pow-mono, pow-pos}
+use lib.Seq.{length-take-le, take-add, take-append-le, getD-drop}
+use lib.Pow.{pow-pos}
 use native.Mathlib.Nat.{pow-succ'}
 use Rattle.bits.specs.Bits.{Bits, allBits, pick, add, digits, value, ones, zeros}
 use Rattle.bits.specs.laws.Sum.{length-add, bits-add, add-assoc, bits-take, length-ones}
@@ -18,19 +18,20 @@ use Rattle.parity.specs.laws.Division.{remainder-after}
 use Rattle.bits.specs.laws.Parts.{length-lent}
 use Rattle.bits.specs.laws.Tab.{bits-tab, length-tab}
 use Rattle.burst.specs.Places.{eAt, gatheredAt, gathered}
-use Rattle.parity.specs.Asked.{Divisible}
+use Rattle.parity.specs.Asked.{Generates}
 use Rattle.trellis.specs.Nearest.{Candidate, nearest, nearestCount}
 use Rattle.trellis.specs.laws.Nearest.{nearest-is}
-use Rattle.coder.specs.Received.{Hearing, allOnes, blockHeard, verdict, hearing, hands, reception}
-use Rattle.coder.specs.declared.Heard.{Heard}
-use Rattle.coder.specs.declared.Heard.the-variants.{Good, Refused, Bad}
-use Rattle.coder.specs.declared.Told.{Told}
-use Rattle.coder.specs.declared.Told.the-variants as told
-use Rattle.coder.specs.declared.Refusal.{Refusal}
-use Rattle.coder.specs.Answers.{Meets, judged}
-use Rattle.coder.specs.Entries.{lengths}
-use Rattle.coder.specs.laws.Answers.{Ready}
-use Rattle.coder.specs.laws.Protected.{Fits}
+use Rattle.answers.specs.Answers.{Meets, heardOr, hears}
+use Rattle.answers.specs.declared.Heard.{Heard}
+use Rattle.answers.specs.declared.Heard.the-variants.{Good, Refused, Bad}
+use Rattle.answers.specs.declared.Refusal.{Refusal}
+use Rattle.answers.specs.declared.Told.{Told}
+use Rattle.answers.specs.declared.Told.the-variants as told
+use Rattle.coder.specs.Entries.{judged, lengths, Given}
+use Rattle.coder.specs.Received.{Hearing, allOnes, blockHeard, verdict, hands, hearing, reception}
+use Rattle.coder.specs.declared.block.Format.{Format}
+use Rattle.coder.specs.laws.Entries.{done}
+use Rattle.coder.specs.laws.Format.{Fits, size, generatorOf}
 
 -- ---- a colour that is added to the parity bits is added to the remainder
 module _ (g d p b : List ℕ) (lp : length p ≡ length g) (lb : length b ≡ length g) (bd : Bits d) (bp : Bits p) (bb : Bits b) where
@@ -48,20 +49,6 @@ module _ (g d p b : List ℕ) (lp : length p ≡ length g) (lb : length b ≡ le
       ap value coloured
       ∙ value-add (remainder g (d ++ p)) b (ap length e ∙ length-add x p ∙ lp ∙ sym lb) (rw e (bits-add x p bp)) bb
 
--- ---- what `coder::block::read` asks, and what it does of a hearing
-pub record Readable (generator degree colour : ℕ) (c d : List ℕ) : Type 0 where
-  pub some : 0 < degree
-  pub narrow : degree ≤ 62
-  pub below : generator < 2 ^ degree
-  pub within : colour < 2 ^ degree
-  pub bits : Bits c
-  pub short : length d + degree + 4 ≤ 228
-  pub long : length c ≡ 2 * (length d + degree + 4)
-
-pub record HandedOver (h : Hearing) (d : List ℕ) (r : Heard) (after : List ℕ) : Type 0 where
-  pub told : r ≡ verdict h
-  pub left : after ≡ hands r (h .bits) d
-
 pub value-ones : (r : ℕ) → value (ones r) ≡ 2 ^ r - 1
 unfolding value ones
 value-ones zero = refl
@@ -74,116 +61,112 @@ value-ones (suc r) =
 pub bits-drop : (n : ℕ) (w : List ℕ) → Bits w → Bits (drop n w)
 bits-drop n w bw k = subst (λ (x : ℕ). x ≤ 1) (sym (getD-drop n w k 0)) (bw (n + k))
 
--- ---- the nearest block v, of which `coder::block::read` tells
-module _ (g r colour : ℕ) (c d u v : List ℕ) (asked : Readable g r colour c d) (lu : length u ≡ length d + r + 4) (ev : v ≡ nearest c (length u)) where
-  is-nearest : v ≡ nearest c (length d + length (digits r g) + 4)
-  is-nearest = ev ∙ ap (nearest c) (lu ∙ ap (λ (k : ℕ). length d + k + 4) (sym (length-digits r g)))
+-- ---- what is told of a block that is heard, by the verdict
+module _ (h : Hearing) (d : List ℕ) (t : Bool) (e : t ≡ h .good) (k : ℕ) (ek : k ≡ h .count) where
+  said : (b : Bool) → t ≡ b → pick b (Good k) (Bad k) ≡ verdict h
+  unfolding verdict
+  said b f = ap₂ (λ (x : Bool) (n : ℕ). pick x (Good n) (Bad n)) (sym f ∙ e) ek
 
-  candidate : Candidate (length u) (nearest c (length u))
-  candidate = nearest-is c (length u) (omega (arith, lu)) (omega (arith, lu, asked .short)) .candidate
+  pub handed-good : (after : List ℕ) → t ≡ true → after ≡ h .bits → Meets (hands h d) (Good k) after
+  unfolding hands hears heardOr
+  handed-good after f ea = record { result = said true f; left = ea ∙ ap (λ (x : Heard). heardOr x (h .bits) d) (said true f) }
 
-  bits-v : Bits v
-  bits-v = subst Bits (sym ev) (candidate .bits)
+  pub handed-bad : t ≡ false → Meets (hands h d) (Bad k) d
+  unfolding hands hears heardOr
+  handed-bad f = record { result = said false f; left = ap (λ (x : Heard). heardOr x (h .bits) d) (said false f) }
 
-  pub long-v : length v ≡ length d + r + 4
-  long-v = ap length ev ∙ candidate .long ∙ lu
+-- ---- the nearest block, which stands at the front of v: what is divided, the bits, the count and the verdict
+module _ (f : Format) (colour : ℕ) (c d rest v : List ℕ) (fits : Fits f) (given : Given (f .coded) (f .bits) c d) (ev : v ≡ nearest c (size f) ++ rest) where
+  abbrev u : List ℕ
+  u = nearest c (size f)
 
-  pub heard-divisible : Divisible g r (take (length d + r - 0) v)
+  abbrev g : List ℕ
+  g = generatorOf f
+
+  abbrev n : ℕ
+  n = length d
+
+  long-g : length g ≡ f .degree
+  long-g = length-digits (f .degree) (f .generator)
+
+  same-size : f .bits + length g + 4 ≡ size f
+  same-size = omega (arith, long-g)
+
+  candidate : Candidate (size f) u
+  candidate = nearest-is c (size f) (omega arith) (fits .short) .candidate
+
+  front : (k : ℕ) → k ≤ size f → take k v ≡ take k u
+  front k h = ap (take k) ev ∙ take-append-le k u rest (omega (arith, candidate .long, h))
+
+  divided : take (n + f .degree - 0) v ≡ take (f .bits + f .degree) u
+  divided =
+      let k : n + f .degree - 0 ≡ f .bits + f .degree = omega (arith, given .lends) in
+      ap (λ (j : ℕ). take j v) k ∙ front (f .bits + f .degree) (omega arith)
+
+  pub heard-divisible : Generates (f .generator) (f .degree) × (f .degree ≤ length (take (n + f .degree - 0) v)) × Bits (take (n + f .degree - 0) v)
   heard-divisible =
-      let l : length (take (length d + r - 0) v) ≡ length d + r - 0 = length-take-le (length d + r - 0) v (omega (arith, long-v)) in
-      record { some = asked .some; narrow = asked .narrow; below = asked .below; long = omega (arith, l); bits = bits-take (length d + r - 0) v bits-v }
+      let l : length (take (f .bits + f .degree) u) ≡ f .bits + f .degree = length-take-le (f .bits + f .degree) u (omega (arith, candidate .long)) in
+      (fits .generates, rw divided (omega (arith, l)), rw divided (bits-take (f .bits + f .degree) u (candidate .bits)))
 
-  pub bits-are : take (length d - 0) v ≡ blockHeard (digits r g) colour (length d) c .bits
+  pub heard-bits : take (n - 0) v ≡ blockHeard g colour (f .bits) c .bits
   unfolding blockHeard
-  bits-are =
-      let k : length d - 0 ≡ length d = omega arith in
-      ap₂ take k is-nearest
+  heard-bits =
+      let k : n - 0 ≡ f .bits = omega (arith, given .lends) in
+      ap (λ (j : ℕ). take j v) k ∙ front (f .bits) (omega arith) ∙ ap (λ (j : ℕ). take (f .bits) (nearest c j)) (sym same-size)
 
-  pub count-is : (k : ℕ) → k ≡ nearestCount c (length u) → k ≡ blockHeard (digits r g) colour (length d) c .count
+  pub heard-count : (k : ℕ) → k ≡ nearestCount c (size f) → k ≡ blockHeard g colour (f .bits) c .count
   unfolding blockHeard
-  count-is k e = e ∙ ap (nearestCount c) (lu ∙ ap (λ (k : ℕ). length d + k + 4) (sym (length-digits r g)))
+  heard-count k e = e ∙ ap (nearestCount c) (sym same-size)
 
-  pub good-is : (t : Bool) → t ≡ eqb (bitXor (value (remainder (digits r g) (take (length d + r - 0) v))) colour) (2 ^ r - 1) → t ≡ blockHeard (digits r g) colour (length d) c .good
+  pub heard-good : colour < 2 ^ f .degree → (t : Bool) → t ≡ eqb (bitXor (value (remainder g (take (n + f .degree - 0) v))) colour) (2 ^ f .degree - 1) → t ≡ blockHeard g colour (f .bits) c .good
   unfolding blockHeard allOnes
-  good-is t e =
-      let n = length d in
-      let G : List ℕ = digits r g in
-      let lg : length G ≡ r = length-digits r g in
-      let x : List ℕ = nearest c (n + length G + 4) in
-      let bx : Bits x = subst Bits is-nearest bits-v in
-      let lx : length x ≡ n + r + 4 = ap length (sym is-nearest) ∙ long-v in
-      let p : List ℕ = take (length G) (drop n x) in
-      let b : List ℕ = digits (length G) colour in
-      let lp : length p ≡ length G = length-lent x n (length G) (omega (arith, lx, lg)) in
-      let h : colour < 2 ^ length G = subst (λ (k : ℕ). colour < 2 ^ k) (sym lg) (asked .within) in
-      let k : n + length G ≡ n + r - 0 = omega (arith, lg) in
-      let front : take n x ++ p ≡ take (n + r - 0) v = sym (take-add n (length G) x) ∙ ap₂ take k (sym is-nearest) in
-      let turned = value-coloured G (take n x) p b lp (length-digits (length G) colour) (bits-take n x bx) (bits-take (length G) (drop n x) (bits-drop n x bx)) (bits-digits (length G) colour) in
+  heard-good within t e =
+      let m = f .bits in
+      let p : List ℕ = take (length g) (drop m u) in
+      let b : List ℕ = digits (length g) colour in
+      let lp : length p ≡ length g = length-lent u m (length g) (omega (arith, candidate .long, long-g)) in
+      let h : colour < 2 ^ length g = subst (λ (k : ℕ). colour < 2 ^ k) (sym long-g) within in
+      let whole : take m u ++ p ≡ take (n + f .degree - 0) v = sym (take-add m (length g) u) ∙ ap (λ (k : ℕ). take (m + k) u) long-g ∙ sym divided in
+      let turned = value-coloured g (take m u) p b lp (length-digits (length g) colour) (bits-take m u (candidate .bits)) (bits-take (length g) (drop m u) (bits-drop m u (candidate .bits))) (bits-digits (length g) colour) in
       e ∙ sym (ap₂ eqb
-      (turned ∙ ap₂ bitXor (ap (λ (w : List ℕ). value (remainder G w)) front) (value-digits (length G) colour h))
-      (value-ones (length G) ∙ ap (λ (k : ℕ). 2 ^ k - 1) lg))
-
-  -- the two ways in which it ends
-  module _ (t : Bool) (e : t ≡ eqb (bitXor (value (remainder (digits r g) (take (length d + r - 0) v))) colour) (2 ^ r - 1)) (k : ℕ) (ek : k ≡ nearestCount c (length u)) where
-    pub handed-good : (w : List ℕ) → t ≡ true → w ≡ take (length d - 0) v → HandedOver (blockHeard (digits r g) colour (length d) c) d (Good k) w
-    unfolding verdict hands
-    handed-good w f ew =
-        let h : Hearing = blockHeard (digits r g) colour (length d) c in
-        record {
-          told = ap Good (count-is k ek) ∙ ap (λ (b : Bool). pick b (Good (h .count)) (Bad (h .count))) (sym f ∙ good-is t e);
-          left = ew ∙ bits-are;
-        }
-
-    pub handed-bad : t ≡ false → HandedOver (blockHeard (digits r g) colour (length d) c) d (Bad k) d
-    unfolding verdict hands
-    handed-bad f =
-        let h : Hearing = blockHeard (digits r g) colour (length d) c in
-        record { told = ap Bad (count-is k ek) ∙ ap (λ (b : Bool). pick b (Good (h .count)) (Bad (h .count))) (sym f ∙ good-is t e); left = refl }
-
--- ---- an entry that is ready may read
-pub readable : {c d : List ℕ} {g r n m i : ℕ} → Fits g r n m → Ready c d m n i → Readable g r i c d
-readable {r = r} {i = i} fits ready = record {
-  some = omega (arith, fits .some);
-  narrow = fits .narrow;
-  below = fits .below;
-  within = let l : 2 ^ 6 ≤ 2 ^ r = pow-mono (fits .some) in omega (arith, l, ready .identity);
-  bits = ready .bits;
-  short = omega (arith, ready .writes, fits .short);
-  long = ready .reads ∙ fits .long ∙ ap (λ (k : ℕ). 2 * (k + r + 4)) (sym (ready .writes));
-}
+      (ap (λ (k : ℕ). value (remainder g (take m (nearest c k) ++ add (take (length g) (drop m (nearest c k))) b))) same-size
+      ∙ turned ∙ ap₂ bitXor (ap (λ (w : List ℕ). value (remainder g w)) whole) (value-digits (length g) colour h))
+      (value-ones (length g) ∙ ap (λ (k : ℕ). 2 ^ k - 1) long-g))
 
 -- ---- the two ways in which a receiving entry ends
 module _ (n m i : ℕ) (c d : List ℕ) (h : Hearing) (j : Told) (e : j ≡ judged (lengths c n d m) (allBits c) (leb i 63)) where
-  pub reception-done : (r : Heard) (after : List ℕ) → j ≡ told.Done → HandedOver h d r after → Meets (reception n m i c h d) r after
-  unfolding reception hearing
+  pub reception-done : (r : Heard) (after : List ℕ) → j ≡ told.Done → Meets (hands h d) r after → Meets (reception n m i c h d) r after
+  unfolding reception hearing hands hears
   reception-done r after f o =
-      let t : r ≡ hearing (judged (lengths c n d m) (allBits c) (leb i 63)) h = o .told ∙ ap (λ (x : Told). hearing x h) (sym f ∙ e) in
-      record { told = t; left = o .left ∙ ap (λ (x : Heard). hands x (h .bits) d) t }
+      let t : verdict h ≡ hearing (judged (lengths c n d m) (allBits c) (leb i 63)) h = ap (λ (x : Told). hearing x h) (sym f ∙ e) in
+      record { result = o .result ∙ t; left = o .left ∙ ap (λ (x : Heard). heardOr x (h .bits) d) t }
 
   pub reception-refused : (x : Refusal) → j ≡ told.Refused x → Meets (reception n m i c h d) (Refused x) d
-  unfolding reception hearing hands
+  unfolding reception hearing hears heardOr
   reception-refused x f =
       let t : Refused x ≡ hearing (judged (lengths c n d m) (allBits c) (leb i 63)) h = ap (λ (y : Told). hearing y h) (sym f ∙ e) in
-      record { told = t; left = ap (λ (y : Heard). hands y (h .bits) d) t }
+      record { result = t; left = ap (λ (y : Heard). heardOr y (h .bits) d) t }
 
--- a generator by its number and by its name, a length by the buffer and by the table
-pub same-hearing : {g G : List ℕ} {n m : ℕ} → g ≡ G → n ≡ m → (c : List ℕ) (colour : ℕ) (d : List ℕ) (r : Heard) (after : List ℕ)
-    → HandedOver (blockHeard g colour n c) d r after → HandedOver (blockHeard G colour m c) d r after
-same-hearing eg en c colour d r after h = subst (λ (x : Hearing). HandedOver x d r after) (ap₂ (λ (x : List ℕ) (k : ℕ). blockHeard x colour k c) eg en) h
+-- ---- an entry that is given what it should be hears the block
+module _ (n m i : ℕ) (c d : List ℕ) (l : i ≤ 63) (g : Given n m c d) (h : Hearing) (k : ℕ) (ek : h .count ≡ k) where
+  pub hears-good : (bits : List ℕ) → h .good ≡ true → h .bits ≡ bits → reception n m i c h d ≡ record { result = Good k; left = bits }
+  unfolding reception hearing verdict hears heardOr
+  hears-good bits eg eb = rw (done n m i c d l g, eg, ek, eb) refl
 
+  pub hears-bad : h .good ≡ false → reception n m i c h d ≡ record { result = Bad k; left = d }
+  unfolding reception hearing verdict hears heardOr
+  hears-bad eg = rw (done n m i c d l g, eg, ek) refl
+
+-- a generator by its number and by its name
 pub same-reception : {g G : List ℕ} → g ≡ G → (n m i : ℕ) (c d : List ℕ) (r : Heard) (after : List ℕ)
     → Meets (reception m n i c (blockHeard g i n c) d) r after → Meets (reception m n i c (blockHeard G i n c) d) r after
 same-reception eg n m i c d r after = subst (λ (x : List ℕ). Meets (reception m n i c (blockHeard x i n c) d) r after) eg
 
--- ---- a SACCH message's control block is bits, and may be read
-pub message-readable : (e d c : List ℕ) → Bits e → length d ≡ 184 → c ≡ gathered e → Readable 0x4820009 40 0 c d
+-- ---- a SACCH message's control block is bits, and may be received
+pub message-given : (e d c : List ℕ) → Bits e → length d ≡ 184 → c ≡ gathered e → Given 456 184 c d
 unfolding gathered gatheredAt
-message-readable e d c be ld ec = record {
-  some = lit< tt;
-  narrow = lit≤ tt;
-  below = lit< tt;
-  within = lit< tt;
+message-given e d c be ld ec = record {
+  reads = ap length ec ∙ length-tab 456 (gatheredAt e);
   bits = subst Bits (sym ec) (bits-tab 456 (gatheredAt e) (λ k. be (116 * (k % 4) + eAt k)));
-  short = omega (arith, ld);
-  long = ap length ec ∙ length-tab 456 (gatheredAt e) ∙ ap (λ (k : ℕ). 2 * (k + 40 + 4)) (sym ld);
+  lends = ld;
 }

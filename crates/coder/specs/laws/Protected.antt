@@ -10,45 +10,11 @@ use Rattle.bits.specs.Bits.{Bits, add, digits, value, ones, zeros}
 use Rattle.bits.specs.laws.Parts.{put, put-three, put-middle, length-lent, length-put}
 use Rattle.bits.specs.laws.Sum.{length-ones, length-zeros, bits-ones, bits-zeros, bits-append, length-add, bits-add}
 use Rattle.bits.specs.laws.Value.{length-digits, bits-digits, value-digits, digits-value, value-add}
-use Rattle.coder.specs.laws.Answers.{Ready}
-use Rattle.parity.specs.Asked.{Divisible}
+use Rattle.coder.specs.declared.block.Format.{Format}
+use Rattle.coder.specs.laws.Format.{Fits, size, generatorOf, laidOut}
+use Rattle.parity.specs.Asked.{Generates}
 use Rattle.parity.specs.Division.{parity, remainder}
 use Rattle.parity.specs.laws.Division.{length-parity, bits-parity}
-
-pub record Protectable (generator degree : ℕ) (d u : List ℕ) : Type 0 where
-  pub some : 0 < degree
-  pub narrow : degree ≤ 62
-  pub below : generator < 2 ^ degree
-  pub bits : Bits d
-  pub long : length u ≡ length d + degree + 4
-
--- what `coder::block::code` asks
-pub record Codable (generator degree : ℕ) (d c : List ℕ) : Type 0 where
-  pub some : 0 < degree
-  pub narrow : degree ≤ 62
-  pub below : generator < 2 ^ degree
-  pub bits : Bits d
-  pub short : length d + degree + 4 ≤ 228
-  pub long : length c ≡ 2 * (length d + degree + 4)
-
--- a block of n bits that becomes m: its generator, and its two lengths; every identity has fewer bits than the parity
-pub record Fits (generator degree n m : ℕ) : Type 0 where
-  pub some : 6 ≤ degree
-  pub narrow : degree ≤ 62
-  pub below : generator < 2 ^ degree
-  pub short : n + degree + 4 ≤ 228
-  pub long : m ≡ 2 * (n + degree + 4)
-
--- an entry that is ready may code
-pub codable : {d c : List ℕ} {g r n m i : ℕ} → Fits g r n m → Ready d c n m i → Codable g r d c
-codable {r = r} fits ready = record {
-  some = omega (arith, fits .some);
-  narrow = fits .narrow;
-  below = fits .below;
-  bits = ready .bits;
-  short = omega (arith, ready .reads, fits .short);
-  long = ready .writes ∙ fits .long ∙ ap (λ (k : ℕ). 2 * (k + r + 4)) (sym (ready .reads));
-}
 
 -- ---- d, ones and zeros, laid into u part by part
 pub laid : (d u w o z : List ℕ) (m : ℕ) → length d ≤ m → m ≤ length u → w ≡ d
@@ -85,13 +51,16 @@ module _ (g d : List ℕ) (bd : Bits d) (r : ℕ) (lg : length g ≡ r) where
       ∙ digits-value (add p (digits r c)) (bits-add p (digits r c) (bits-digits r c))
 
 -- ---- the ones are divided, and what is left takes their place
-module _ (g r c : ℕ) (d u v : List ℕ) (asked : Protectable g r d u)
-    (ev : v ≡ d ++ (ones (length d + r - length d) ++ zeros (length u - (length d + r)))) where
+module _ (f : Format) (colour : ℕ) (d u v : List ℕ) (fits : Fits f) (bd : Bits d) (ld : length d ≡ f .bits) (lu : length u ≡ size f)
+    (ev : v ≡ d ++ (ones (length d + f .degree - length d) ++ zeros (length u - (length d + f .degree)))) where
+  abbrev r : ℕ
+  r = f .degree
+
   shape : v ≡ d ++ (ones r ++ zeros 4)
   shape =
       let n = length d in
       let a : n + r - n ≡ r = omega arith in
-      let b : length u - (n + r) ≡ 4 = omega (arith, asked .long) in
+      let b : length u - (n + r) ≡ 4 = omega (arith, lu, ld) in
       ev ∙ rw (a, b)
 
   front : take (length d + r - 0) v ≡ d ++ ones r
@@ -99,37 +68,50 @@ module _ (g r c : ℕ) (d u v : List ℕ) (asked : Protectable g r d u)
       let l : length (d ++ ones r) ≡ length d + r - 0 = length-append d (ones r) ∙ rw (length-ones r) (omega arith) in
       ap (take (length d + r - 0)) (shape ∙ sym (append-assoc d (ones r) (zeros 4))) ∙ take-at (d ++ ones r) (zeros 4) (length d + r - 0) l
 
-  pub front-divisible : Divisible g r (take (length d + r - 0) v)
-  front-divisible = record {
-    some = asked .some;
-    narrow = asked .narrow;
-    below = asked .below;
-    long = rw (front, length-append d (ones r), length-ones r) (omega arith);
-    bits = rw front (bits-append d (ones r) (asked .bits) (bits-ones r));
-  }
+  pub front-divisible : Generates (f .generator) r × (r ≤ length (take (length d + r - 0) v)) × Bits (take (length d + r - 0) v)
+  front-divisible = (
+    fits .generates,
+    rw (front, length-append d (ones r), length-ones r) (omega arith),
+    rw front (bits-append d (ones r) bd (bits-ones r)),
+  )
 
-  pub protected : (p : ℕ) (q : List ℕ) → p ≡ value (remainder (digits r g) (take (length d + r - 0) v))
-      → q ≡ digits (length (take (length d + r - length d) (drop (length d) v))) (bitXor p c)
-      → put (length d) (length d + r - length d) q v ≡ d ++ (digits r (bitXor (value (parity (digits r g) d)) c) ++ zeros 4)
+  pub protected : (p : ℕ) (q : List ℕ) → p ≡ value (remainder (generatorOf f) (take (length d + r - 0) v))
+      → q ≡ digits (length (take (length d + r - length d) (drop (length d) v))) (bitXor p colour)
+      → put (length d) (length d + r - length d) q v ≡ laidOut f colour d
   unfolding parity
   protected p q ep eq =
       let n = length d in
+      let g = generatorOf f in
       let a : n + r - n ≡ r = omega arith in
       let lv : length v ≡ n + (r + 4) = ap length shape ∙ rw (length-append d (ones r ++ zeros 4), length-append (ones r) (zeros 4), length-ones r, length-zeros 4) in
-      let fp : p ≡ value (remainder (digits r g) (d ++ ones (length (digits r g)))) =
-      ep ∙ ap (λ (w : List ℕ). value (remainder (digits r g) w)) (front ∙ ap (λ (k : ℕ). d ++ ones k) (sym (length-digits r g))) in
-      let fq : q ≡ digits r (bitXor p c) = eq ∙ ap (λ (k : ℕ). digits k (bitXor p c)) (length-lent v n (n + r - n) (omega (arith, lv)) ∙ a) in
+      let fp : p ≡ value (remainder g (d ++ ones (length g))) =
+      ep ∙ ap (λ (w : List ℕ). value (remainder g w)) (front ∙ ap (λ (k : ℕ). d ++ ones k) (sym (length-digits r (f .generator)))) in
+      let fq : q ≡ digits r (bitXor p colour) = eq ∙ ap (λ (k : ℕ). digits k (bitXor p colour)) (length-lent v n (n + r - n) (omega (arith, lv)) ∙ a) in
       ap (put n (n + r - n) q) shape
       ∙ put-middle d (ones r) (zeros 4) q n (n + r - n) refl (length-ones r ∙ sym a)
-      ∙ ap (λ (l : List ℕ). d ++ (l ++ zeros 4)) (fq ∙ ap (λ (x : ℕ). digits r (bitXor x c)) fp)
+      ∙ ap (λ (l : List ℕ). d ++ (l ++ zeros 4)) (fq ∙ ap (λ (x : ℕ). digits r (bitXor x colour)) fp)
 
--- ---- u is bits, and as long as it should be
-module _ (d : List ℕ) (r x : ℕ) where
-  bits-u : Bits d → Bits (d ++ (digits r x ++ zeros 4))
-  bits-u bd = bits-append d (digits r x ++ zeros 4) bd (bits-append (digits r x) (zeros 4) (bits-digits r x) (bits-zeros 4))
+-- ---- u is bits, and as long as it should be; it stands at the front of what holds it
+module _ (f : Format) (colour : ℕ) (d : List ℕ) (bd : Bits d) (ld : length d ≡ f .bits) where
+  abbrev u : List ℕ
+  u = laidOut f colour d
 
-  length-u : length (d ++ (digits r x ++ zeros 4)) ≡ length d + r + 4
-  length-u = rw (length-append d (digits r x ++ zeros 4), length-append (digits r x) (zeros 4), length-digits r x, length-zeros 4) (omega arith)
+  bits-u : Bits u
+  bits-u =
+      let x = bitXor (value (parity (generatorOf f) d)) colour in
+      bits-append d (digits (f .degree) x ++ zeros 4) bd (bits-append (digits (f .degree) x) (zeros 4) (bits-digits (f .degree) x) (bits-zeros 4))
 
-  pub coded-asked : (u c : List ℕ) → Bits d → length c ≡ 2 * (length d + r + 4) → u ≡ d ++ (digits r x ++ zeros 4) → Bits u × (length c ≡ 2 * length u)
-  coded-asked u c bd lc e = (rw e (bits-u bd), lc ∙ ap (λ (n : ℕ). 2 * n) (sym (ap length e ∙ length-u)))
+  length-u : length u ≡ size f
+  length-u =
+      let x = bitXor (value (parity (generatorOf f) d)) colour in
+      rw (length-append d (digits (f .degree) x ++ zeros 4), length-append (digits (f .degree) x) (zeros 4), length-digits (f .degree) x, length-zeros 4) (omega (arith, ld))
+
+  module _ (v w : List ℕ) (k : ℕ) (lk : k ≡ size f) (ew : w ≡ u) where
+    pub laid-front : take (k - 0) (put 0 (k - 0) w v) ≡ u
+    laid-front = take-at w (drop (k - 0) v) (k - 0) (ap length ew ∙ length-u ∙ omega (arith, lk)) ∙ ew
+
+    pub laid-long : k ≤ length v → k ≤ length (put 0 (k - 0) w v)
+    laid-long h = rw (length-put v w 0 (k - 0) (omega arith) (ap length ew ∙ length-u ∙ omega (arith, lk))) h
+
+    pub coded-asked : (c : List ℕ) → Fits f → length c ≡ f .coded → Bits (take (k - 0) (put 0 (k - 0) w v)) × (length c ≡ 2 * length (take (k - 0) (put 0 (k - 0) w v)))
+    coded-asked c fits lc = (rw laid-front bits-u, lc ∙ fits .long ∙ ap (λ (n : ℕ). 2 * n) (sym (ap length laid-front ∙ length-u)))

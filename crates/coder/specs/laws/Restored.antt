@@ -12,7 +12,7 @@ use Rattle.bits.specs.laws.Sum.{length-ones, length-zeros, bits-ones, bits-zero
 use Rattle.bits.specs.laws.Value.{length-digits, bits-digits, digits-value}
 use Rattle.parity.specs.Division.{parity, remainder}
 use Rattle.parity.specs.laws.Division.{length-parity, bits-parity, parity-leaves, parity-only, remainder-after}
-use Rattle.trellis.specs.Nearest.{Candidate, disagreements, nearest}
+use Rattle.trellis.specs.Nearest.{Candidate, disagreements, nearest, longest}
 use Rattle.trellis.specs.Pairs.{coded}
 use Rattle.trellis.specs.laws.Distance.{corrected}
 use Rattle.coder.specs.Received.{allOnes, blockHeard}
@@ -62,7 +62,7 @@ unfoldable pub coloured : List ℕ → List ℕ → List ℕ → List ℕ
 coloured g a d = d ++ (add (parity g d) a ++ zeros 4)
 
 module _ (g a d c : List ℕ) (bd : Bits d) (la : length a ≡ length g) (ba : Bits a)
-    (short : length d + length g + 4 ≤ 228) (few : disagreements c (coded (coloured g a d)) ≤ 3) where
+    (short : length d + length g + 4 ≤ longest) (few : disagreements c (coded (coloured g a d)) ≤ 3) where
   abbrev n : ℕ
   n = length d + length g + 4
 
@@ -91,13 +91,13 @@ module _ (g a d c : List ℕ) (bd : Bits d) (la : length a ≡ length g) (ba : B
   restored = corrected n c (coloured g a d) candidate short few .0
 
   -- the bits and the count
-  pub heard-bits : (j : ℕ) → blockHeard g j (length d) c .bits ≡ d
+  pub restored-bits : (j : ℕ) → blockHeard g j (length d) c .bits ≡ d
   unfolding blockHeard coloured
-  heard-bits j = ap (take (length d)) restored ∙ take-at d (checks ++ zeros 4) (length d) refl
+  restored-bits j = ap (take (length d)) restored ∙ take-at d (checks ++ zeros 4) (length d) refl
 
-  pub heard-count : (j : ℕ) → blockHeard g j (length d) c .count ≡ disagreements c (coded (coloured g a d))
+  pub restored-count : (j : ℕ) → blockHeard g j (length d) c .count ≡ disagreements c (coded (coloured g a d))
   unfolding blockHeard
-  heard-count j = corrected n c (coloured g a d) candidate short few .1
+  restored-count j = corrected n c (coloured g a d) candidate short few .1
 
   -- the verdict
   verdict-of : (j : ℕ) → blockHeard g j (length d) c .good ≡ allOnes g (d ++ add checks (digits (length g) j))
@@ -110,12 +110,12 @@ module _ (g a d c : List ℕ) (bd : Bits d) (la : length a ≡ length g) (ba : B
       ap₂ (λ (x y : List ℕ). allOnes g (x ++ add y (digits (length g) j)))
       (ap (take (length d)) restored ∙ take-at d (checks ++ zeros 4) (length d) refl) tail
 
-  pub heard-good : (j : ℕ) → a ≡ digits (length g) j → blockHeard g j (length d) c .good ≡ true
-  heard-good j e =
+  pub restored-good : (j : ℕ) → a ≡ digits (length g) j → blockHeard g j (length d) c .good ≡ true
+  restored-good j e =
       verdict-of j
       ∙ ap (λ (x : List ℕ). allOnes g (d ++ add (add (parity g d) x) (digits (length g) j))) e
       ∙ same-colour g d bd (digits (length g) j) (length-digits (length g) j) (bits-digits (length g) j)
 
-  pub heard-bad : (j : ℕ) → (a ≡ digits (length g) j → ⊥) → blockHeard g j (length d) c .good ≡ false
-  heard-bad j other =
+  pub restored-bad : (j : ℕ) → (a ≡ digits (length g) j → ⊥) → blockHeard g j (length d) c .good ≡ false
+  restored-bad j other =
       verdict-of j ∙ other-colour g d bd a (digits (length g) j) la (length-digits (length g) j) ba (bits-digits (length g) j) other

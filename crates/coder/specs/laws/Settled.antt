@@ -1,15 +1,9 @@
--- Each sending entry's contract settles its result and every byte of the lent buffer: two that it allows are equal.
+-- Each entry's contract settles its result and every byte of the lent buffer: two that it allows are equal.
 use mathlib.Core.List.{List}
-use mathlib.Core.Path.{_≡_}
 use Prim.Native.Nat.{ℕ}
-use Rattle.coder.specs.Answers.{Answer, Meets}
+use Rattle.answers.specs.laws.Answers.{Settled, meets-once}
 use Rattle.coder.specs.Entries.{speechSent, controlSent, sacchSent, accessSent, schSent, trellisViewed}
 use Rattle.coder.specs.Received.{speechReceived, controlReceived, sacchReceived, accessReceived, schReceived}
-use Rattle.coder.specs.laws.Answers.{meets-once}
-
--- at most one result, and one content of the buffer, meets the answer a
-abbrev pub Settled : {A : Type 0} → Answer A → Type 0
-Settled {A} a = (r s : A) (x y : List ℕ) → Meets a r x → Meets a s y → (r ≡ s) × (x ≡ y)
 
 module _ (identity : ℕ) (d c : List ℕ) where
   pub speech-settled : Settled (speechSent d c)

@@ -12,7 +12,7 @@ use Rattle.bits.specs.laws.Parts.{put, put-two}
 use Rattle.bits.specs.laws.Sum.{length-ones, bits-ones, bits-append, bits-take}
 use Rattle.bits.specs.laws.Tab.{length-tab, bits-tab}
 use Rattle.bits.specs.laws.Value.{length-digits, digits-value}
-use Rattle.parity.specs.Asked.{Divisible}
+use Rattle.parity.specs.Asked.{Generates}
 use Rattle.parity.specs.Division.{parity, remainder, speechG}
 use Rattle.parity.specs.laws.Division.{length-parity, bits-parity}
 use Rattle.parity.specs.laws.Generators.{speech-number}
@@ -30,14 +30,12 @@ module _ (d : List ℕ) (bd : Bits d) (ld : length d ≡ 260) where
     unfolding zeros
     laid = ew ∙ rw (first-long) (ap (λ (l : List ℕ). take 50 d ++ l) (append-nil (ones 3)))
 
-    pub first-divisible : Divisible 0b011 3 w
-    first-divisible = record {
-      some = lit< tt;
-      narrow = lit≤ tt;
-      below = lit< tt;
-      long = rw (laid, length-append (take 50 d) (ones 3), length-ones 3) (omega arith);
-      bits = rw laid (bits-append (take 50 d) (ones 3) (bits-take 50 d bd) (bits-ones 3));
-    }
+    pub first-divisible : Generates 0b011 3 × (3 ≤ length w) × Bits w
+    first-divisible = (
+      record { some = lit< tt; narrow = lit≤ tt; below = lit< tt },
+      rw (laid, length-append (take 50 d) (ones 3), length-ones 3) (omega arith),
+      rw laid (bits-append (take 50 d) (ones 3) (bits-take 50 d bd) (bits-ones 3)),
+    )
 
     pub parity-put : (x n : ℕ) (p : List ℕ) → x ≡ value (remainder (digits 3 0b011) w) → n ≡ 3 → p ≡ digits n x → p ≡ speechP d
     unfolding speechP parity

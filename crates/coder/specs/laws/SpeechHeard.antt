@@ -7,20 +7,19 @@ use native.Mathlib.Omega.{arith}
 use lib.Bits.{bitXor, xor-zero-r}
 use lib.Dec.{eqb, lit<, lit≤}
 use lib.ListN.{length, getD, take, drop, length-append, length-drop}
-use lib.Seq.{length-take-le, take-all}
+use lib.Seq.{length-take-le, take-all, take-at}
 use Rattle.bits.specs.Bits.{Bits, pick, tab, digits, value, ones}
 use Rattle.bits.specs.laws.Parts.{put, put-two}
 use Rattle.bits.specs.laws.Sum.{bits-append, bits-take}
 use Rattle.bits.specs.laws.Tab.{length-tab, bits-tab, even-place, odd-place}
 use Rattle.bits.specs.laws.Value.{length-digits}
-use Rattle.parity.specs.Asked.{Divisible}
+use Rattle.parity.specs.Asked.{Generates}
 use Rattle.parity.specs.Division.{remainder, speechG}
 use Rattle.parity.specs.laws.Generators.{speech-number}
 use Rattle.trellis.specs.Nearest.{Candidate, nearest, nearestCount}
 use Rattle.trellis.specs.laws.Nearest.{nearest-is}
-use Rattle.coder.specs.Received.{allOnes, speechDAt, speechHeard, verdict, hands}
-use Rattle.coder.specs.laws.Heard.{HandedOver, bits-drop, value-ones}
-use Rattle.coder.specs.declared.Heard.the-variants.{Good, Bad}
+use Rattle.coder.specs.Received.{allOnes, speechDAt, speechHeard}
+use Rattle.coder.specs.laws.Heard.{bits-drop, value-ones}
 
 -- ---- d by twos: d(2k) = u(k) and d(2k+1) = u(184-k)
 pub d-even : (u : List ℕ) (k : ℕ) → speechDAt u (2 * k) ≡ getD u k 0
@@ -37,17 +36,14 @@ laid-check d u e x y ld le ex ey =
     put-two e x y 50 3 50 (ap length ex ∙ length-take-le 50 d (omega (arith, ld))) refl le ∙ ap₂ (λ (a b : List ℕ). a ++ b) ex ey
 
 module _ (d u w : List ℕ) (bd : Bits d) (bu : Bits u) (ld : length d ≡ 182) (lu : length u ≡ 189) (ew : w ≡ take 50 d ++ take 3 (drop 91 u)) where
-  pub check-divisible : Divisible 0b011 3 w
+  pub check-divisible : Generates 0b011 3 × (3 ≤ length w) × Bits w
   check-divisible =
       let a : length (take 50 d) ≡ 50 = length-take-le 50 d (omega (arith, ld)) in
-      let l : length w ≡ length (take 50 d) + length (take 3 (drop 91 u)) = ap length ew ∙ length-append (take 50 d) (take 3 (drop 91 u)) in
-      record {
-        some = lit< tt;
-        narrow = lit≤ tt;
-        below = lit< tt;
-        long = omega (arith, l, a);
-        bits = subst Bits (sym ew) (bits-append (take 50 d) (take 3 (drop 91 u)) (bits-take 50 d bd) (bits-take 3 (drop 91 u) (bits-drop 91 u bu)));
-      }
+      let l : length w ≡ length (take 50 d) + length (take 3 (drop 91 u)) = ap length ew ∙ length-append (take 50 d) (take 3 (drop 91 u)) in (
+        record { some = lit< tt; narrow = lit≤ tt; below = lit< tt },
+        omega (arith, l, a),
+        subst Bits (sym ew) (bits-append (take 50 d) (take 3 (drop 91 u)) (bits-take 50 d bd) (bits-take 3 (drop 91 u) (bits-drop 91 u bu))),
+      )
 
   pub check-is : (t : Bool) → t ≡ eqb (bitXor (value (remainder (digits 3 0b011) w)) 0) 7 → t ≡ allOnes speechG (take 50 d ++ take 3 (drop 91 u))
   unfolding allOnes
@@ -64,10 +60,13 @@ laid-speech f c e x y lf lc le ex ey =
     let all : take 78 (drop 378 c) ≡ drop 378 c = take-all 78 (drop 378 c) (simp length-drop (omega (arith, lc))) in
     put-two e x y 182 78 182 (ap length ex ∙ lf) refl le ∙ ap₂ (λ (a b : List ℕ). a ++ b) ex (ey ∙ all)
 
--- ---- the nearest block v, its protected bits f, and how `coder::speech::read` ends
-module _ (c d v f : List ℕ) (bc : Bits c) (lc : length c ≡ 456) (ev : v ≡ nearest (take 378 c) 189) (ef : f ≡ tab 182 (speechDAt v)) where
+-- ---- the nearest block, which stands at the front of x; its protected bits f; the verdict
+module _ (c rest x v f : List ℕ) (bc : Bits c) (lc : length c ≡ 456) (ex : x ≡ nearest (take 378 c) 189 ++ rest) (cut : v ≡ take 189 x) (ef : f ≡ tab 182 (speechDAt v)) where
   candidate : Candidate 189 (nearest (take 378 c) 189)
   candidate = nearest-is (take 378 c) 189 (lit≤ tt) (lit≤ tt) .candidate
+
+  ev : v ≡ nearest (take 378 c) 189
+  ev = cut ∙ ap (take 189) ex ∙ take-at (nearest (take 378 c) 189) rest 189 (candidate .long)
 
   pub bits-v : Bits v
   bits-v = subst Bits (sym ev) (candidate .bits)
@@ -92,19 +91,14 @@ module _ (c d v f : List ℕ) (bc : Bits c) (lc : length c ≡ 456) (ev : v ≡ 
   firsts : f ≡ tab 182 (speechDAt (nearest (take 378 c) 189))
   firsts = ef ∙ ap (λ (x : List ℕ). tab 182 (speechDAt x)) ev
 
-  module _ (t : Bool) (e : t ≡ allOnes speechG (take 50 f ++ take 3 (drop 91 v))) (k : ℕ) (ek : k ≡ nearestCount (take 378 c) 189) where
-    good-is : t ≡ speechHeard c .good
-    unfolding speechHeard
-    good-is = e ∙ ap₂ (λ (x y : List ℕ). allOnes speechG (take 50 x ++ take 3 (drop 91 y))) firsts ev
+  pub speech-is : (t : Bool) → t ≡ allOnes speechG (take 50 f ++ take 3 (drop 91 v)) → t ≡ speechHeard c .good
+  unfolding speechHeard
+  speech-is t e = e ∙ ap₂ (λ (x y : List ℕ). allOnes speechG (take 50 x ++ take 3 (drop 91 y))) firsts ev
 
-    told-is : (b : Bool) → t ≡ b → pick b (Good k) (Bad k) ≡ verdict (speechHeard c)
-    unfolding verdict speechHeard
-    told-is b h = ap₂ (λ (x : Bool) (n : ℕ). pick x (Good n) (Bad n)) (sym h ∙ good-is) ek
+  pub count-is : (k : ℕ) → k ≡ nearestCount (take 378 c) 189 → k ≡ speechHeard c .count
+  unfolding speechHeard
+  count-is k e = e
 
-    pub speech-good : (after : List ℕ) → t ≡ true → after ≡ f ++ drop 378 c → HandedOver (speechHeard c) d (Good k) after
-    unfolding hands speechHeard
-    speech-good after h ea = record { told = told-is true h; left = ea ∙ ap (λ (x : List ℕ). x ++ drop 378 c) firsts }
-
-    pub speech-bad : t ≡ false → HandedOver (speechHeard c) d (Bad k) d
-    unfolding hands
-    speech-bad h = record { told = told-is false h; left = refl }
+  pub bits-are : (after : List ℕ) → after ≡ f ++ drop 378 c → after ≡ speechHeard c .bits
+  unfolding speechHeard
+  bits-are after e = e ∙ ap (λ (x : List ℕ). x ++ drop 378 c) firsts

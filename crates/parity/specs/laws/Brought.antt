@@ -19,32 +19,32 @@ use Rattle.bits.specs.laws.Value.{value-lt, value-snoc, value-add}
 use Rattle.parity.specs.Division.{divide, remainder}
 
 -- bit b is brought down behind the bits s that are held; a leading 1 is struck out by the generator
-unfoldable pub bring : List ℕ → List ℕ → ℕ → List ℕ
-bring g [] b = []
-bring g (zero ∷ s) b = s ++ (b ∷ [])
-bring g (suc a ∷ s) b = add g (s ++ (b ∷ []))
+unfoldable pub bringDown : List ℕ → List ℕ → ℕ → List ℕ
+bringDown g [] b = []
+bringDown g (zero ∷ s) b = s ++ (b ∷ [])
+bringDown g (suc a ∷ s) b = add g (s ++ (b ∷ []))
 
 unfoldable pub along : List ℕ → List ℕ → List ℕ → List ℕ
 along g s [] = s
-along g s (b ∷ w) = along g (bring g s b) w
+along g s (b ∷ w) = along g (bringDown g s b) w
 
 none : Bits []
 none k = omega arith
 
-length-bring : (g s : List ℕ) (b : ℕ) → length (bring g s b) ≡ length s
-unfolding bring
+length-bring : (g s : List ℕ) (b : ℕ) → length (bringDown g s b) ≡ length s
+unfolding bringDown
 length-bring g [] b = refl
 length-bring g (zero ∷ s) b = length-append s (b ∷ []) ∙ omega arith
 length-bring g (suc a ∷ s) b = length-add g (s ++ (b ∷ [])) ∙ length-append s (b ∷ []) ∙ omega arith
 
-bits-bring : (g s : List ℕ) (b : ℕ) → Bits s → b ≤ 1 → Bits (bring g s b)
-unfolding bring
+bits-bring : (g s : List ℕ) (b : ℕ) → Bits s → b ≤ 1 → Bits (bringDown g s b)
+unfolding bringDown
 bits-bring g [] b bs h k = bs k
 bits-bring g (zero ∷ s) b bs h k = bits-append s (b ∷ []) (λ i. bs (suc i)) (bits-cons b [] h none) k
 bits-bring g (suc a ∷ s) b bs h k = bits-add g (s ++ (b ∷ [])) (bits-append s (b ∷ []) (λ i. bs (suc i)) (bits-cons b [] h none)) k
 
 divide-along : (g s w : List ℕ) → 0 < length g → length s ≡ length g → divide g (length w) (s ++ w) ≡ along g s w
-unfolding divide along bring
+unfolding divide along bringDown
 divide-along g s [] l e = append-nil s
 divide-along g [] (b ∷ w) l e = let z : ⊥ = omega (arith, e) in absurd z
 divide-along g (zero ∷ s) (b ∷ w) l e =
@@ -57,11 +57,11 @@ divide-along g (suc a ∷ s) (b ∷ w) l e =
 along-append : (g s v w : List ℕ) → along g s (v ++ w) ≡ along g (along g s v) w
 unfolding along
 along-append g s [] w = refl
-along-append g s (b ∷ v) w = along-append g (bring g s b) v w
+along-append g s (b ∷ v) w = along-append g (bringDown g s b) v w
 
 -- bits that are brought down behind zeros only take their places
 shift-in : (g s w : List ℕ) → along g (zeros (length w) ++ s) w ≡ s ++ w
-unfolding along bring zeros
+unfolding along bringDown zeros
 shift-in g s [] = sym (append-nil s)
 shift-in g s (b ∷ w) =
     rw (append-assoc (replicate (length w) 0) s (b ∷ [])) (shift-in g (s ++ (b ∷ [])) w ∙ append-snoc s b w)
@@ -82,19 +82,19 @@ remainder-along g w l h =
     ∙ ap (along g (zeros r)) (take-append-drop r w)
 
 -- ---- the same with numbers
-unfoldable pub bringN : ℕ → ℕ → ℕ → ℕ → ℕ
-bringN g top h b = pick (ltb (2 * h + b) top) (2 * h + b) (bitXor g (2 * h + b - top))
+unfoldable pub broughtDown : ℕ → ℕ → ℕ → ℕ → ℕ
+broughtDown g top h b = pick (ltb (2 * h + b) top) (2 * h + b) (bitXor g (2 * h + b - top))
 
 unfoldable pub alongN : ℕ → ℕ → ℕ → List ℕ → ℕ
 alongN g top h [] = h
-alongN g top h (b ∷ w) = alongN g top (bringN g top h b) w
+alongN g top h (b ∷ w) = alongN g top (broughtDown g top h b) w
 
-bring-low : (g top h b x : ℕ) → 2 * h + b ≡ x → x < top → x ≡ bringN g top h b
-unfolding bringN
+bring-low : (g top h b x : ℕ) → 2 * h + b ≡ x → x < top → x ≡ broughtDown g top h b
+unfolding broughtDown
 bring-low g top h b x e l = rw (e, lt-ltb x top l)
 
-bring-high : (g top h b x : ℕ) → 2 * h + b ≡ top + x → bitXor g x ≡ bringN g top h b
-unfolding bringN
+bring-high : (g top h b x : ℕ) → 2 * h + b ≡ top + x → bitXor g x ≡ broughtDown g top h b
+unfolding broughtDown
 bring-high g top h b x e =
     let d : 2 * h + b - top ≡ x = omega arith in
     rw (d, le-ltb (2 * h + b) top (omega arith))
@@ -121,7 +121,7 @@ module _ (g k h b : ℕ) (lh : h < 2 ^ k) (lb : b ≤ 1) where
       (λ (l : 2 ^ k ≤ brought). rw (quotient-1 (brought - 2 ^ k) (omega arith) (omega arith)) (omega arith))
       (lt-or-le brought (2 ^ k))
 
-  pub bring-times : g < 2 ^ k → bitXor brought ((2 ^ k + g) * (brought / 2 ^ k)) ≡ bringN g (2 ^ k) h b
+  pub bring-times : g < 2 ^ k → bitXor brought ((2 ^ k + g) * (brought / 2 ^ k)) ≡ broughtDown g (2 ^ k) h b
   bring-times lg =
       ⊎-elim (λ (l : brought < 2 ^ k).
       let z : (2 ^ k + g) * (brought / 2 ^ k) ≡ 0 = ap (λ (q : ℕ). (2 ^ k + g) * q) (quotient-0 l) ∙ omega arith in
@@ -137,8 +137,8 @@ module _ (g k h b : ℕ) (lh : h < 2 ^ k) (lb : b ≤ 1) where
       (lt-or-le brought (2 ^ k))
 
 bring-value : (g s : List ℕ) (b : ℕ) → 0 < length g → length s ≡ length g → Bits g → Bits s → b ≤ 1
-    → value (bring g s b) ≡ bringN (value g) (2 ^ length g) (value s) b
-unfolding bring value
+    → value (bringDown g s b) ≡ broughtDown (value g) (2 ^ length g) (value s) b
+unfolding bringDown value
 bring-value g [] b l e bg bs h = let z : ⊥ = omega (arith, e) in absurd z
 bring-value g (zero ∷ s) b l e bg bs h =
     let n : length (s ++ (b ∷ [])) ≡ length g = length-append s (b ∷ []) ∙ omega (arith, e) in
@@ -156,7 +156,7 @@ along-value : (g s w : List ℕ) → 0 < length g → length s ≡ length g → 
 unfolding along alongN
 along-value g s [] l e bg bs bw = refl
 along-value g s (b ∷ w) l e bg bs bw =
-    along-value g (bring g s b) w l (length-bring g s b ∙ e) bg (bits-bring g s b bs (bw 0)) (λ k. bw (suc k))
+    along-value g (bringDown g s b) w l (length-bring g s b ∙ e) bg (bits-bring g s b bs (bw 0)) (λ k. bw (suc k))
     ∙ ap (λ (x : ℕ). alongN (value g) (2 ^ length g) x w) (bring-value g s b l e bg bs (bw 0))
 
 value-zeros : (n : ℕ) → value (zeros n) ≡ 0
@@ -175,15 +175,15 @@ remainder-value g w l h bg bw =
 alongN-append : (g top h : ℕ) (v w : List ℕ) → alongN g top h (v ++ w) ≡ alongN g top (alongN g top h v) w
 unfolding alongN
 alongN-append g top h [] w = refl
-alongN-append g top h (b ∷ v) w = alongN-append g top (bringN g top h b) v w
+alongN-append g top h (b ∷ v) w = alongN-append g top (broughtDown g top h b) v w
 
-pub alongN-more : (g top h : ℕ) (w : List ℕ) (i : ℕ) → i < length w → alongN g top h (take (i + 1) w) ≡ bringN g top (alongN g top h (take i w)) (getD w i 0)
+pub alongN-more : (g top h : ℕ) (w : List ℕ) (i : ℕ) → i < length w → alongN g top h (take (i + 1) w) ≡ broughtDown g top (alongN g top h (take i w)) (getD w i 0)
 unfolding alongN
 alongN-more g top h w i l =
     rw (add-one i, take-suc w i 0 l) (alongN-append g top h (take i w) (getD w i 0 ∷ []))
 
-pub bringN-lt : (g k h b : ℕ) → g < 2 ^ k → h < 2 ^ k → b ≤ 1 → bringN g (2 ^ k) h b < 2 ^ k
-bringN-lt g k h b lg lh lb = ⊎-elim (λ (l : 2 * h + b < 2 ^ k). subst (λ (x : ℕ). x < 2 ^ k) (bring-low g (2 ^ k) h b (2 * h + b) refl l) l)
+pub broughtDown-lt : (g k h b : ℕ) → g < 2 ^ k → h < 2 ^ k → b ≤ 1 → broughtDown g (2 ^ k) h b < 2 ^ k
+broughtDown-lt g k h b lg lh lb = ⊎-elim (λ (l : 2 * h + b < 2 ^ k). subst (λ (x : ℕ). x < 2 ^ k) (bring-low g (2 ^ k) h b (2 * h + b) refl l) l)
     (λ (l : 2 ^ k ≤ 2 * h + b). let x : ℕ = 2 * h + b - 2 ^ k in
     subst (λ (x : ℕ). x < 2 ^ k) (bring-high g (2 ^ k) h b x (omega arith)) (xor-lt k g x lg (omega arith)))
     (lt-or-le (2 * h + b) (2 ^ k))

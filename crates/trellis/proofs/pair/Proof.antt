@@ -6,7 +6,7 @@ use Rattle.trellis.proofs.pair.Tie as tie
 
 returns : tie.Need-returns
 unfolding printed
-returns c = printed-right (c .args .s) (c .args .b) (c .pre .0) (c .pre .1)
+returns c = let start = c .before in printed-right (start .args .s) (start .args .b) (start .pre .0) (start .pre .1)
 
 pub pair-spec : {M : Type 1} → statement M
 pair-spec = tie.close (tie.spec (λ c. search needs) (λ c. search needs) (λ c. search needs) returns)

@@ -129,22 +129,14 @@ pub row-more : (r f g : List ℕ) (k : ℕ) → f ≡ row r k → g ≡ tab 16 (
 row-more r f g k ef eg =
     eg ∙ ap (λ (h : List ℕ). tab 16 (stepAt h (getD r (2 * k) 0) (getD r (2 * k + 1) 0))) ef ∙ row-next r k ∙ ap (row r) (sym (add-one k))
 
-length-retrace : (g : ℕ → ℕ → ℕ) (t s : ℕ) → length (retrace g t s) ≡ t
-unfolding retrace
-length-retrace g zero s = refl
-length-retrace g (suc t) s = ap suc (length-retrace g t (from 8 s (g t s)))
-
 -- ---- the whole: the walk through the remembered choices is the nearest block
-pub found : (r m rest w after : List ℕ) (n : ℕ) → Remembers r n m → w ≡ reverse (retrace (bitsOf m) n 0) ++ rest → after ≡ take (n - 0) w → after ≡ nearest r n
+pub found : (r m rest w : List ℕ) (n : ℕ) → Remembers r n m → w ≡ reverse (retrace (bitsOf m) n 0) ++ rest → w ≡ nearest r n ++ rest
 unfolding nearest bitsOf
-found r m rest w after n mem ew ea =
-    let p = retrace (bitsOf m) n 0 in
-    let l : length (reverse p) ≡ n - 0 = length-reverse p ∙ length-retrace (bitsOf m) n 0 ∙ omega arith in
-    let e : p ≡ walk 8 (pairCost r) 65535 n 0 =
-    retraced r (bitsOf m) n
+found r m rest w n mem ew =
+    ew ∙ ap (λ (p : List ℕ). reverse p ++ rest)
+    (retraced r (bitsOf m) n
     (λ t s lt ls. ap (λ (x : ℕ). x / 2 ^ ((16 - s) % 16) % 2) (mem t lt) ∙ turned-bit (choice 8 (pairCost r) 65535 t) (choice-le r t) s ls)
-    0 (omega arith) in
-    ea ∙ ap (take (n - 0)) ew ∙ take-at (reverse p) rest (n - 0) l ∙ ap reverse e
+    0 (omega arith))
 
 pub count-is : (r f : List ℕ) (n : ℕ) → f ≡ row r n → getD f 0 0 ≡ nearestCount r n
 unfolding nearestCount row

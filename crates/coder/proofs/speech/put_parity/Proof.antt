@@ -7,13 +7,13 @@ use Rattle.coder.proofs.speech.put_parity.Tie as tie
 remainder-requires : tie.Need-remainder-requires
 remainder-requires c κs =
     let start = c .before .before .before .before .before .before .before in
-    let laid = c .before .before .lay in
+    let laid = c .before .before .append-ones in
     first-divisible (start .args .d .now) (start .pre .0) (start .pre .1) (laid .last .1 .1 .0) (laid .ensures)
 
 returns : tie.Need-returns
 returns c =
     let start = c .before .before .before .before .before .before .before .before .before .before .before .before in
-    let laid = c .before .before .before .before .before .before .before .lay in
+    let laid = c .before .before .before .before .before .before .before .append-ones in
     let divided = c .before .before .before .before .remainder in
     let placed = c .before .before .put-digits in
     parity-put (start .args .d .now) (start .pre .0) (start .pre .1) (laid .last .1 .1 .0) (laid .ensures) (divided .result) _ (placed .last .1 .0) (divided .ensures) (start .pre .2) (placed .ensures)

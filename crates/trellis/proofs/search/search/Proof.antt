@@ -10,7 +10,7 @@ use Rattle.trellis.proofs.search.search.Statement.{statement}
 use Rattle.trellis.proofs.search.search.Tie as tie
 
 abbrev Inv-loop : tie.InvT-loop
-Inv-loop c n memory₀ row₀ k₀ memory row k = (k ≤ n) × (length memory ≡ 228) × (row ≡ spec.row c k) × Remembers c k memory
+Inv-loop c n memory₀ row₀ k₀ memory row k = (k ≤ n) × (length memory ≡ spec.longest) × (row ≡ spec.row c k) × Remembers c k memory
 
 abbrev μ-loop : tie.MeasureT-loop
 μ-loop c n memory₀ row₀ k₀ memory row k = n - k

@@ -1,8 +1,8 @@
--- `coder::block::lay` is right: its three parts make the whole.
+-- `coder::block::append_ones` is right: its three parts make the whole.
 use borrow.Author.Needs.{needs}
 use Rattle.coder.specs.laws.Protected.{laid}
-use Rattle.coder.proofs.block.lay.Statement.{statement}
-use Rattle.coder.proofs.block.lay.Tie as tie
+use Rattle.coder.proofs.block.append_ones.Statement.{statement}
+use Rattle.coder.proofs.block.append_ones.Tie as tie
 
 returns : tie.Need-returns
 returns c =
@@ -13,8 +13,8 @@ returns c =
     laid (start .args .d .now) (start .args .u .now) (copied .last .1 .0) (ones .last .1 .0) (zeros .last .1 .0) (start .args .m)
     (start .pre .0) (start .pre .1) (copied .ensures) (ones .ensures) (zeros .ensures)
 
-pub lay-spec : {M : Type 1} → statement M
-lay-spec =
+pub append-ones-spec : {M : Type 1} → statement M
+append-ones-spec =
     tie.close
     (tie.spec
     (λ c. search needs)

@@ -1,0 +1,69 @@
+-- What is said of a call, in 01's numbers; a whole answer; and what it is to meet one.
+use mathlib.Core.List.{List}
+use mathlib.Core.Option.{Option, none, some}
+use mathlib.Core.Path.{_≡_}
+use Prim.Native.Nat.{ℕ}
+use Rattle.answers.specs.declared.Refusal.{Refusal}
+use Rattle.answers.specs.declared.Refusal.the-variants.{Length, NotBits, Identity, OutOfTurn, Full, NothingSent, Ended, Parity, Flags}
+use Rattle.answers.specs.declared.Told.{Told}
+use Rattle.answers.specs.declared.Told.the-variants as told
+use Rattle.answers.specs.declared.Heard.{Heard}
+use Rattle.answers.specs.declared.Heard.the-variants as heard
+
+-- 01, Numbers given for a no
+abbrev pub numberOf : Refusal → ℕ
+numberOf Length = 1
+numberOf NotBits = 2
+numberOf Identity = 3
+numberOf OutOfTurn = 4
+numberOf Full = 5
+numberOf NothingSent = 6
+numberOf Ended = 7
+numberOf Parity = 8
+numberOf Flags = 9
+
+-- ---- what is returned: the number, if one is given, and the count, if 01 says that it is returned besides
+pub record Returned : Type 0 where
+  pub number : Option ℕ
+  pub count : Option ℕ
+
+abbrev pub returned : Option ℕ → Option ℕ → Returned
+returned number count = record { number = number; count = count }
+
+-- a call that is done gives no number
+abbrev pub ofTold : Told → Returned
+ofTold told.Done = returned none none
+ofTold (told.Refused r) = returned (some (numberOf r)) none
+
+-- a good block gives its count, a bad parity 8 and the count
+abbrev pub ofHeard : Heard → Returned
+ofHeard (heard.Good k) = returned none (some k)
+ofHeard (heard.Refused r) = returned (some (numberOf r)) none
+ofHeard (heard.Bad k) = returned (some (numberOf Parity)) (some k)
+
+-- ---- a whole answer: the result of a call, and what the lent buffer then holds
+pub record Answer (A : Type 0) : Type 0 where
+  pub result : A
+  pub left : List ℕ
+
+-- a contract: the result, and the buffer at the return, are the answer's
+pub record Meets {A : Type 0} (a : Answer A) (r : A) (after : List ℕ) : Type 0 where
+  pub result : r ≡ a .result
+  pub left : after ≡ a .left
+
+-- done: what is sent stands in the buffer; refused: the buffer stands as before
+unfoldable pub sentOr : Told → List ℕ → List ℕ → List ℕ
+sentOr told.Done sent before = sent
+sentOr (told.Refused r) sent before = before
+
+unfoldable pub tells : Told → List ℕ → List ℕ → Answer Told
+tells t sent before = record { result = t; left = sentOr t sent before }
+
+-- good: the block's bits stand in the buffer; else the buffer stands as before
+unfoldable pub heardOr : Heard → List ℕ → List ℕ → List ℕ
+heardOr (heard.Good k) bits before = bits
+heardOr (heard.Refused r) bits before = before
+heardOr (heard.Bad k) bits before = before
+
+unfoldable pub hears : Heard → List ℕ → List ℕ → Answer Heard
+hears h bits before = record { result = h; left = heardOr h bits before }

@@ -1,0 +1,57 @@
+// What every entry says of its call: done, refused with one of 01's numbers, or what was received.
+ghost use mathlib.Core.Path.{_≡_};
+ghost use Rattle.answers.specs.Answers.{numberOf};
+
+// Why there is a no (01, Numbers given for a no).
+pub enum Refusal {
+    // 1: a lent buffer has another length than the table says
+    Length,
+    // 2: a byte that is read as a bit is over 1
+    NotBits,
+    // 3: the identity is over 63
+    Identity,
+    // 4: the burst's number isn't the next one
+    OutOfTurn,
+    // 5: 16,383 blocks are sent, or burst 65,535 is taken
+    Full,
+    // 6: an end with no block sent
+    NothingSent,
+    // 7: a send or an end after the end
+    Ended,
+    // 8: the parity is bad
+    Parity,
+    // 9: four of the eight flags are 1
+    Flags,
+}
+
+// What is said of a send, or of the end of a stream.
+pub enum Told {
+    Done,
+    Refused(Refusal),
+}
+
+// What is said of a block that is received.
+pub enum Heard {
+    // the block, and in how many places it disagrees with what was received
+    Good(u16),
+    Refused(Refusal),
+    // the parity is bad; with the count
+    Bad(u16),
+}
+
+// 01's number of a refusal.
+pub fn number(r: Refusal) -> u8
+    ensures { λ n. ⌜ n ≡ numberOf r ⌝ }
+{
+    match r {
+        Refusal::Length => 1,
+        Refusal::NotBits => 2,
+        Refusal::Identity => 3,
+        Refusal::OutOfTurn => 4,
+        Refusal::Full => 5,
+        Refusal::NothingSent => 6,
+        Refusal::Ended => 7,
+        Refusal::Parity => 8,
+        Refusal::Flags => 9,
+    }
+}
