@@ -1,37 +1,39 @@
 // The face for C: access and control block entries in both directions, on numbers and byte slices. Every call is coder's, and its
 // answer is one number: 65,536 times 01's number, 0 where none is given, and the count in the lower half.
+use answers::Heard;
+use answers::Refusal;
+use answers::Told;
 ghost use mathlib.Core.Path.{_≡_};
-ghost use Rattle.coder.specs.Answers.{Meets, numberGiven};
+ghost use Rattle.answers.specs.Answers.{Meets, ofTold, ofHeard};
 ghost use Rattle.coder.specs.Entries.{accessSent, controlSent};
-ghost use Rattle.coder.specs.Received.{accessReceived, controlReceived, numberHeard, countHeard};
-ghost use Rattle.desk.specs.Desk.{oneNumber, sentFrom, heardAt};
-ghost use mathlib.Core.Option.{none};
+ghost use Rattle.coder.specs.Received.{accessReceived, controlReceived};
+ghost use Rattle.desk.specs.Desk.{oneNumber, inOneNumber};
 
 // What is told of a send, as one number.
-fn of_told(told: coder::Told) -> u32
-    ensures { λ n. ⌜ n ≡ oneNumber (numberGiven told) none ⌝ }
+fn of_told(told: Told) -> u32
+    ensures { λ n. ⌜ n ≡ oneNumber (ofTold told) ⌝ }
 {
     match told {
-        coder::Told::Done => 0,
-        coder::Told::Refused(why) => 65536 * coder::number(why) as u32,
+        Told::Done => 0,
+        Told::Refused(why) => 65536 * answers::number(why) as u32,
     }
 }
 
 // What is heard, as one number.
-fn of_heard(heard: coder::Heard) -> u32
-    ensures { λ n. ⌜ n ≡ oneNumber (numberHeard heard) (countHeard heard) ⌝ }
+fn of_heard(heard: Heard) -> u32
+    ensures { λ n. ⌜ n ≡ oneNumber (ofHeard heard) ⌝ }
 {
     match heard {
-        coder::Heard::Good(count) => count as u32,
-        coder::Heard::Refused(why) => 65536 * coder::number(why) as u32,
-        coder::Heard::Bad(count) => 65536 * 8 + count as u32,
+        Heard::Good(count) => count as u32,
+        Heard::Refused(why) => 65536 * answers::number(why) as u32,
+        Heard::Bad(count) => 65536 * answers::number(Refusal::Parity) as u32 + count as u32,
     }
 }
 
 // Access: the identity and 8 bits to 36.
 #[no_mangle]
 pub extern "C" fn desk_send_access(identity: u8, d: &[u8], e: &mut [u8]) -> u32
-    ensures { λ n. ⌜ Meets (sentFrom (accessSent identity (now (d .entry)) (now (e .entry)))) n (now (e .exit)) ⌝ }
+    ensures { λ n. ⌜ Meets (inOneNumber ofTold (accessSent identity (now (d .entry)) (now (e .entry)))) n (now (e .exit)) ⌝ }
 {
     of_told(coder::send_access(identity, d, e))
 }
@@ -39,7 +41,7 @@ pub extern "C" fn desk_send_access(identity: u8, d: &[u8], e: &mut [u8]) -> u32
 // Access received: the identity and 36 bits to 8.
 #[no_mangle]
 pub extern "C" fn desk_receive_access(identity: u8, e: &[u8], d: &mut [u8]) -> u32
-    ensures { λ n. ⌜ Meets (heardAt (accessReceived identity (now (e .entry)) (now (d .entry)))) n (now (d .exit)) ⌝ }
+    ensures { λ n. ⌜ Meets (inOneNumber ofHeard (accessReceived identity (now (e .entry)) (now (d .entry)))) n (now (d .exit)) ⌝ }
 {
     of_heard(coder::receive_access(identity, e, d))
 }
@@ -47,7 +49,7 @@ pub extern "C" fn desk_receive_access(identity: u8, e: &[u8], d: &mut [u8]) -> u
 // Control block: 184 bits to 456.
 #[no_mangle]
 pub extern "C" fn desk_send_control(d: &[u8], c: &mut [u8]) -> u32
-    ensures { λ n. ⌜ Meets (sentFrom (controlSent (now (d .entry)) (now (c .entry)))) n (now (c .exit)) ⌝ }
+    ensures { λ n. ⌜ Meets (inOneNumber ofTold (controlSent (now (d .entry)) (now (c .entry)))) n (now (c .exit)) ⌝ }
 {
     of_told(coder::send_control(d, c))
 }
@@ -55,7 +57,7 @@ pub extern "C" fn desk_send_control(d: &[u8], c: &mut [u8]) -> u32
 // Control block received: 456 bits to 184.
 #[no_mangle]
 pub extern "C" fn desk_receive_control(c: &[u8], d: &mut [u8]) -> u32
-    ensures { λ n. ⌜ Meets (heardAt (controlReceived (now (c .entry)) (now (d .entry)))) n (now (d .exit)) ⌝ }
+    ensures { λ n. ⌜ Meets (inOneNumber ofHeard (controlReceived (now (c .entry)) (now (d .entry)))) n (now (d .exit)) ⌝ }
 {
     of_heard(coder::receive_control(c, d))
 }

@@ -1,11 +1,12 @@
 -- `desk::desk_send_control` is right: it is coder's entry, told in one number.
 use borrow.Author.Needs.{needs}
-use Rattle.desk.specs.laws.Desk.{sent-from}
+use Rattle.answers.specs.Answers.{ofTold}
+use Rattle.desk.specs.laws.Desk.{in-one-number}
 use Rattle.desk.proofs.desk_send_control.Statement.{statement}
 use Rattle.desk.proofs.desk_send_control.Tie as tie
 
 returns : tie.Need-returns
-returns c = sent-from _ _ _ _ (c .of-told .ensures) (c .before .before .before .send-control .ensures)
+returns c = in-one-number ofTold _ _ _ _ (c .of-told .ensures) (c .before .before .before .send-control .ensures)
 
 pub desk-send-control-spec : {M : Type 1} → statement M
 desk-send-control-spec = tie.close (tie.spec (λ c κs. search needs) (λ c κs. search needs) (λ c. search needs) returns)
