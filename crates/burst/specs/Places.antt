@@ -2,8 +2,8 @@
 use mathlib.Core.List.{List, _++_}
 use Prim.Native.Nat.{ℕ, _+_, _-_, _*_, _/_, _%_}
 use lib.Dec.{ltb, eqb}
-use lib.ListN.{getD, take, drop}
-use Rattle.bits.specs.Bits.{pick, tab, total}
+use lib.ListN.{getD}
+use Rattle.bits.specs.Bits.{pick, tab}
 
 -- 000, 3.1.3 and 4.1.4: j = 2((49k) mod 57) + ((k mod 8) div 4)
 unfoldable pub placeOf : ℕ → ℕ
@@ -53,30 +53,3 @@ gatheredAt e k = getD e (116 * (k % 4) + eAt k) 0
 
 unfoldable pub gathered : List ℕ → List ℕ
 gathered e = tab 456 (gatheredAt e)
-
--- ---- streams. 01: bit k of block n goes to burst 4n + (k mod 8), and 4n is the first burst of block n
-unfoldable pub firstBurst : ℕ → ℕ
-firstBurst n = 4 * n
-
--- eight bursts are held, burst B at 116 (B mod 8). A held byte counts as its lowest bit, so that whatever is held is bits
-unfoldable pub heldBit : List ℕ → ℕ → ℕ → ℕ
-heldBit held B x = getD held (116 * (B % 8) + x) 0 % 2
-
--- burst B is put in its place
-unfoldable pub kept : List ℕ → ℕ → List ℕ → List ℕ
-kept held B e = take (116 * (B % 8)) held ++ (e ++ drop (116 * (B % 8) + 116) held)
-
--- the coded bits of block n
-unfoldable pub ownAt : List ℕ → ℕ → ℕ → ℕ
-ownAt held n k = heldBit held (firstBurst n + k % 8) (eAt k)
-
-unfoldable pub own : List ℕ → ℕ → List ℕ
-own held n = tab 456 (ownAt held n)
-
--- its eight flags: hu of its first four bursts and hl of its last four
-unfoldable pub flagAt : List ℕ → ℕ → ℕ → ℕ
-flagAt held n i = heldBit held (firstBurst n + i) (pick (ltb i 4) hu hl)
-
--- how many of them are 1
-unfoldable pub flagCount : List ℕ → ℕ → ℕ
-flagCount held n = total 8 (flagAt held n)

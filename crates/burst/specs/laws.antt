@@ -1,4 +1,6 @@
+pub mod Numbers
 pub mod Places
 pub mod Four
-pub mod Held
 pub mod Table
+pub mod Ring
+pub mod Held

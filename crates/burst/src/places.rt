@@ -1,5 +1,14 @@
+// The places: where a block's coded bits and flags stand in its bursts (000, 3.1.3, 3.1.4, 4.1.4, 4.1.5).
+ghost use mathlib.Core.List.{_++_};
+ghost use mathlib.Core.Path.{_≡_};
+ghost use Prim.Native.Nat.{_+_, _<_};
+ghost use lib.ListN.{length};
+ghost use Rattle.bits.specs.Bits.{tab};
+ghost use Rattle.burst.specs.Places.{four, gathered};
+ghost use Rattle.burst.specs.laws.Table.{burstOfTwice, fourOfTwice, laid, placedIn};
+
 // Where bit k of a block stands in its eight bursts: 116 (k mod 8) and its e-index (000, 3.1.3, 3.1.4). That the table is that is one test.
-pub const PLACES: [u16; 456] = [
+const PLACES: [u16; 456] = [
     0,
     216,
     316,
@@ -459,7 +468,7 @@ pub const PLACES: [u16; 456] = [
 ];
 
 // Which bit stands at e(x) of the first burst; at the flags any. In burst i it is the bit 57 i further on (000, 3.1.3).
-pub const BITS: [u16; 116] = [
+const BITS: [u16; 116] = [
     0,
     228,
     64,
@@ -577,3 +586,85 @@ pub const BITS: [u16; 116] = [
     392,
     164,
 ];
+
+// c, and c once more behind it.
+fn twice(c: &[u8], whole: &mut [u8])
+    requires { ⌜ length (now whole) ≡ length (now c) + length (now c) ⌝ }
+    ensures { λ _. ⌜ now (whole .exit) ≡ now (c .entry) ++ now (c .entry) ⌝ }
+{
+    let n = c.len();
+    let m = whole.len();
+    bits::copy(c, &mut whole[0..n]);
+    bits::copy(c, &mut whole[n..m]);
+}
+
+// The bits of burst i modulo 4: at e(x) the one that the table has, 57 i further on, of block a where x is even and of block b where it
+// is odd. Both blocks stand twice, so that no bit is past the end.
+fn fill_bits(i: usize, a: &[u8], b: &[u8], e: &mut [u8])
+    requires { ⌜ (i < 4) × (length (now a) ≡ 912) × (length (now b) ≡ 912) × (length (now e) ≡ 116) ⌝ }
+    ensures { λ _. ⌜ now (e .exit) ≡ tab 116 (laid i (now (a .entry)) (now (b .entry))) ⌝ }
+{
+    let at = BITS;
+    let mut x = 0;
+    while x < 58 {
+        e[2 * x] = a[at[2 * x] as usize + 57 * i];
+        e[2 * x + 1] = b[at[2 * x + 1] as usize + 57 * i];
+        x += 1;
+    }
+}
+
+// One burst, in which block a with flag p begins and block b with flag q goes on; both blocks stand twice.
+fn fill(i: usize, a: &[u8], p: u8, b: &[u8], q: u8, e: &mut [u8])
+    requires { ⌜ (i < 4) × (length (now a) ≡ 912) × (length (now b) ≡ 912) × (length (now e) ≡ 116) ⌝ }
+    ensures { λ _. ⌜ now (e .exit) ≡ burstOfTwice i (now (a .entry)) p (now (b .entry)) q ⌝ }
+{
+    fill_bits(i, a, b, e);
+    e[57] = q;
+    e[58] = p;
+}
+
+// Four bursts, each into its own part.
+fn fill_parts(a: &[u8], p: u8, b: &[u8], q: u8, e: &mut [u8])
+    requires { ⌜ (length (now a) ≡ 912) × (length (now b) ≡ 912) × (length (now e) ≡ 464) ⌝ }
+    ensures { λ _. ⌜ now (e .exit) ≡ fourOfTwice (now (a .entry)) p (now (b .entry)) q ⌝ }
+{
+    fill(0, a, p, b, q, &mut e[0..116]);
+    fill(1, a, p, b, q, &mut e[116..232]);
+    fill(2, a, p, b, q, &mut e[232..348]);
+    fill(3, a, p, b, q, &mut e[348..464]);
+}
+
+// Four bursts, in which block a with flag p begins and block b with flag q goes on.
+pub fn fill_four(a: &[u8], p: u8, b: &[u8], q: u8, e: &mut [u8])
+    requires { ⌜ (length (now a) ≡ 456) × (length (now b) ≡ 456) × (length (now e) ≡ 464) ⌝ }
+    ensures { λ _. ⌜ now (e .exit) ≡ four (now (a .entry)) p (now (b .entry)) q ⌝ }
+{
+    let mut begins = [0u8; 912];
+    twice(a, &mut begins);
+    let mut goes_on = [0u8; 912];
+    twice(b, &mut goes_on);
+    fill_parts(&begins, p, &goes_on, q, e);
+}
+
+// The bits of a block, each from its place in the eight bursts.
+pub fn gather(bursts: &[u8], c: &mut [u8])
+    requires { ⌜ (length (now bursts) ≡ 928) × (length (now c) ≡ 456) ⌝ }
+    ensures { λ _. ⌜ now (c .exit) ≡ tab 456 (placedIn (now (bursts .entry))) ⌝ }
+{
+    let at = PLACES;
+    let mut k = 0;
+    while k < 456 {
+        c[k] = bursts[at[k] as usize];
+        k += 1;
+    }
+}
+
+// The coded bits of one block out of its four bursts, which serve as its first four and as its last four.
+pub fn gather_four(e: &[u8], c: &mut [u8])
+    requires { ⌜ (length (now e) ≡ 464) × (length (now c) ≡ 456) ⌝ }
+    ensures { λ _. ⌜ now (c .exit) ≡ gathered (now (e .entry)) ⌝ }
+{
+    let mut bursts = [0u8; 928];
+    twice(e, &mut bursts);
+    gather(&bursts, c);
+}

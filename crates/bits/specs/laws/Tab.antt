@@ -1,13 +1,13 @@
 -- A tabulated list has its length and its entries, and is the only list that has them; and what a filling loop needs of them.
 use mathlib.Core.Bool.{Bool, true, false}
-use mathlib.Core.List.{List, _++_}
+use mathlib.Core.List.{List, [], _∷_, _++_}
 use mathlib.Core.Logic.{⊎-elim}
 use mathlib.Core.Path.{_≡_, refl, sym, ap, _∙_, subst}
 use Prim.Native.Nat.{ℕ, zero, suc, _+_, _*_, _/_, _%_, _≤_, _<_}
 use native.Mathlib.Nat.{add-zero, zero-add, add-suc, suc-add, le-of-suc-le-suc, not-suc-le-zero, eq-or-lt-of-le}
 use native.Mathlib.Omega.{arith}
 use lib.Dec.{T, eqb}
-use lib.ListN.{length, getD, set, length-set, List·getD-append, List·getD-eq-default}
+use lib.ListN.{length, getD, set, length-set, length-append, List·getD-append, List·getD-eq-default}
 use lib.Seq.{ext-getD, getD-set-same, getD-set-other, getD-append-add}
 use borrow.Author.Count.{below-more}
 use borrow.Author.Tests.{eq-eqb, ne-eqb}
@@ -108,3 +108,15 @@ at-left xs ys k h = List·getD-append xs ys 0 k h
 
 pub at-right : (xs ys : List ℕ) (n k i : ℕ) → length xs ≡ n → i ≡ n + k → getD (xs ++ ys) i 0 ≡ getD ys k 0
 at-right xs ys n k i l e = rw (e, ← l) (getD-append-add xs ys k 0)
+
+-- ---- one entry more, at the end
+pub tab-more : (n : ℕ) (f : ℕ → ℕ) → tab (suc n) f ≡ tab n f ++ (f n ∷ [])
+tab-more n f =
+    let long : length (tab n f ++ (f n ∷ [])) ≡ suc n = length-append (tab n f) (f n ∷ []) ∙ omega (arith, length-tab n f) in
+    sym (is-tab (suc n) f (tab n f ++ (f n ∷ [])) long each)
+  where
+    each : (k : ℕ) → k < suc n → getD (tab n f ++ (f n ∷ [])) k 0 ≡ f k
+    each k h =
+        ⊎-elim (λ (e : k ≡ n). at-right (tab n f) (f n ∷ []) n 0 k (length-tab n f) (omega arith) ∙ ap f (sym e))
+        (λ (l : k < n). at-left (tab n f) (f n ∷ []) k (rw (length-tab n f) l) ∙ at-tab n f k l)
+        (eq-or-lt-of-le (le-of-suc-le-suc h))
