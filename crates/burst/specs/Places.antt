@@ -1,6 +1,6 @@
 -- Where the 456 coded bits of a block stand in its bursts, and what a burst of 116 bytes holds.
 use mathlib.Core.List.{List, _++_}
-use Prim.Native.Nat.{ℕ, _+_, _-_, _*_, _/_, _%_}
+use Prim.Native.Nat.{ℕ, _+_, _-_, _*_, _/_, _%_, _^_}
 use lib.Dec.{ltb, eqb}
 use lib.ListN.{getD}
 use Rattle.bits.specs.Bits.{pick, tab}
@@ -32,20 +32,27 @@ placeAt x = pick (ltb x 57) x (x - 2)
 unfoldable pub bitAt : ℕ → ℕ → ℕ
 bitAt i j = (57 * (i + 4 * (j % 2)) + 64 * (j / 2)) % 456
 
--- 000, 3.1.3, 3.1.4: e(x) of a burst, number i modulo 4, in which block a with flag p begins and block b with flag q goes on. The even
--- places and hu are a's, the odd places and hl are b's.
-unfoldable pub cell : ℕ → List ℕ → ℕ → List ℕ → ℕ → ℕ → ℕ
-cell i a p b q x =
-    pick (eqb x hl) q
-    (pick (eqb x hu) p
+-- flag j of the eight of four bursts, hl and hu of each in order, in one byte, the first the highest
+unfoldable pub flagIn : ℕ → ℕ → ℕ
+flagIn flags j = flags / 2 ^ (7 - j) % 2
+
+-- 000, 3.1.3, 3.1.4: e(x) of burst i of four, in which block a begins and block b goes on. The even places are a's, the odd ones b's
+unfoldable pub cell : ℕ → List ℕ → List ℕ → ℕ → ℕ → ℕ
+cell i a b flags x =
+    pick (eqb x hl) (flagIn flags (2 * i))
+    (pick (eqb x hu) (flagIn flags (2 * i + 1))
     (pick (eqb (placeAt x % 2) 0) (getD a (bitAt i (placeAt x)) 0) (getD b (bitAt i (placeAt x)) 0)))
 
-unfoldable pub burst : ℕ → List ℕ → ℕ → List ℕ → ℕ → List ℕ
-burst i a p b q = tab 116 (cell i a p b q)
+unfoldable pub burst : ℕ → List ℕ → List ℕ → ℕ → List ℕ
+burst i a b flags = tab 116 (cell i a b flags)
 
 -- four bursts, one after another
-unfoldable pub four : List ℕ → ℕ → List ℕ → ℕ → List ℕ
-four a p b q = burst 0 a p b q ++ (burst 1 a p b q ++ (burst 2 a p b q ++ burst 3 a p b q))
+unfoldable pub four : List ℕ → List ℕ → ℕ → List ℕ
+four a b flags = burst 0 a b flags ++ (burst 1 a b flags ++ (burst 2 a b flags ++ burst 3 a b flags))
+
+-- 01: of a stream's four bursts hu is the flag of the block that begins, hl that of the block that goes on
+unfoldable pub flagsOf : ℕ → ℕ → ℕ
+flagsOf begins goesOn = 85 * begins + 170 * goesOn
 
 -- 000, 4.1.4, at the receiver: bit k stands in burst k mod 4 of the four, at its e-index
 unfoldable pub gatheredAt : List ℕ → ℕ → ℕ

@@ -14,5 +14,6 @@ pub use numbers::first_burst;
 pub use numbers::next_block;
 pub use numbers::next_burst;
 pub use places::fill_four;
+pub use places::flags_of;
 pub use places::gather_four;
 pub use ring::hold;

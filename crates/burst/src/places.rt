@@ -1,10 +1,10 @@
 // The places: where a block's coded bits and flags stand in its bursts (000, 3.1.3, 3.1.4, 4.1.4, 4.1.5).
 ghost use mathlib.Core.List.{_++_};
 ghost use mathlib.Core.Path.{_≡_};
-ghost use Prim.Native.Nat.{_+_, _<_};
+ghost use Prim.Native.Nat.{_+_, _≤_, _<_};
 ghost use lib.ListN.{length};
 ghost use Rattle.bits.specs.Bits.{tab};
-ghost use Rattle.burst.specs.Places.{four, gathered};
+ghost use Rattle.burst.specs.Places.{flagIn, flagsOf, four, gathered};
 ghost use Rattle.burst.specs.laws.Table.{burstOfTwice, fourOfTwice, laid, placedIn};
 
 // Where bit k of a block stands in its eight bursts: 116 (k mod 8) and its e-index (000, 3.1.3, 3.1.4). That the table is that is one test.
@@ -613,37 +613,53 @@ fn fill_bits(i: usize, a: &[u8], b: &[u8], e: &mut [u8])
     }
 }
 
-// One burst, in which block a with flag p begins and block b with flag q goes on; both blocks stand twice.
-fn fill(i: usize, a: &[u8], p: u8, b: &[u8], q: u8, e: &mut [u8])
+// Flag j of the eight in one byte, the first the highest.
+fn flag(flags: u8, j: usize) -> u8
+    requires { ⌜ j < 8 ⌝ }
+    ensures { λ r. ⌜ r ≡ flagIn flags j ⌝ }
+{
+    (flags >> (7 - j)) % 2
+}
+
+// The flags of a stream's four bursts: hu is p, that of the block that begins, and hl is q, that of the block that goes on (01).
+pub fn flags_of(p: u8, q: u8) -> u8
+    requires { ⌜ (p ≤ 1) × (q ≤ 1) ⌝ }
+    ensures { λ r. ⌜ r ≡ flagsOf p q ⌝ }
+{
+    85 * p + 170 * q
+}
+
+// Burst i of four, in which block a begins and block b goes on; both blocks stand twice.
+fn fill(i: usize, a: &[u8], b: &[u8], flags: u8, e: &mut [u8])
     requires { ⌜ (i < 4) × (length (now a) ≡ 912) × (length (now b) ≡ 912) × (length (now e) ≡ 116) ⌝ }
-    ensures { λ _. ⌜ now (e .exit) ≡ burstOfTwice i (now (a .entry)) p (now (b .entry)) q ⌝ }
+    ensures { λ _. ⌜ now (e .exit) ≡ burstOfTwice i (now (a .entry)) (now (b .entry)) flags ⌝ }
 {
     fill_bits(i, a, b, e);
-    e[57] = q;
-    e[58] = p;
+    e[57] = flag(flags, 2 * i);
+    e[58] = flag(flags, 2 * i + 1);
 }
 
 // Four bursts, each into its own part.
-fn fill_parts(a: &[u8], p: u8, b: &[u8], q: u8, e: &mut [u8])
+fn fill_parts(a: &[u8], b: &[u8], flags: u8, e: &mut [u8])
     requires { ⌜ (length (now a) ≡ 912) × (length (now b) ≡ 912) × (length (now e) ≡ 464) ⌝ }
-    ensures { λ _. ⌜ now (e .exit) ≡ fourOfTwice (now (a .entry)) p (now (b .entry)) q ⌝ }
+    ensures { λ _. ⌜ now (e .exit) ≡ fourOfTwice (now (a .entry)) (now (b .entry)) flags ⌝ }
 {
-    fill(0, a, p, b, q, &mut e[0..116]);
-    fill(1, a, p, b, q, &mut e[116..232]);
-    fill(2, a, p, b, q, &mut e[232..348]);
-    fill(3, a, p, b, q, &mut e[348..464]);
+    fill(0, a, b, flags, &mut e[0..116]);
+    fill(1, a, b, flags, &mut e[116..232]);
+    fill(2, a, b, flags, &mut e[232..348]);
+    fill(3, a, b, flags, &mut e[348..464]);
 }
 
-// Four bursts, in which block a with flag p begins and block b with flag q goes on.
-pub fn fill_four(a: &[u8], p: u8, b: &[u8], q: u8, e: &mut [u8])
+// Four bursts, in which block a begins and block b goes on. Their flags are hl and hu of each in order, the first the highest bit.
+pub fn fill_four(a: &[u8], b: &[u8], flags: u8, e: &mut [u8])
     requires { ⌜ (length (now a) ≡ 456) × (length (now b) ≡ 456) × (length (now e) ≡ 464) ⌝ }
-    ensures { λ _. ⌜ now (e .exit) ≡ four (now (a .entry)) p (now (b .entry)) q ⌝ }
+    ensures { λ _. ⌜ now (e .exit) ≡ four (now (a .entry)) (now (b .entry)) flags ⌝ }
 {
     let mut begins = [0u8; 912];
     twice(a, &mut begins);
     let mut goes_on = [0u8; 912];
     twice(b, &mut goes_on);
-    fill_parts(&begins, p, &goes_on, q, e);
+    fill_parts(&begins, &goes_on, flags, e);
 }
 
 // The bits of a block, each from its place in the eight bursts.

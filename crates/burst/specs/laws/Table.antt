@@ -13,7 +13,7 @@ use Rattle.bits.specs.Bits.{pick, both, tab}
 use Rattle.bits.specs.laws.Cases.{lt-or-le}
 use Rattle.bits.specs.laws.Parts.{put, put-four}
 use Rattle.bits.specs.laws.Tab.{below, both-left, both-right, is-tab, at-tab, length-tab, tab-same, at-left, at-right}
-use Rattle.burst.specs.Places.{placeOf, eOf, eAt, placeAt, bitAt, cell, burst, four, gatheredAt}
+use Rattle.burst.specs.Places.{placeOf, eOf, eAt, placeAt, bitAt, flagIn, cell, burst, four, gatheredAt}
 use Rattle.burst.specs.laws.Places.{every-bit}
 
 unfoldable pub places : List ℕ
@@ -170,61 +170,58 @@ stands i a b hi la lb x h =
     ∙ ap₂ (λ (s m : ℕ). pick (eqb s 0) (getD a m 0) (getD b m 0)) (side-right x h) k
 
 -- the flags are set last
-module _ (i : ℕ) (a : List ℕ) (p : ℕ) (b : List ℕ) (q : ℕ) (e : List ℕ) (ee : e ≡ tab 116 (unflagged i a b)) where
-  e-long : length e ≡ 116
-  e-long = ap length ee ∙ length-tab 116 (unflagged i a b)
-
-  at : (x : ℕ) → x < 116 → getD (set (set e 57 q) 58 p) x 0 ≡ cell i a p b q x
-  unfolding cell unflagged
-  at x h = by-tests (eqb x 57) (eqb x 58) refl refl
-    where
-      by-tests : (f g : Bool) → eqb x 57 ≡ f → eqb x 58 ≡ g
-          → getD (set (set e 57 q) 58 p) x 0 ≡ pick f q (pick g p (pick (eqb (placeAt x % 2) 0) (getD a (bitAt i (placeAt x)) 0) (getD b (bitAt i (placeAt x)) 0)))
-      by-tests true g ef eg =
-          let is : x ≡ 57 = eqb-true x 57 ef in
-          let here : 57 < length e = omega (arith, e-long) in
-          getD-set-other (set e 57 q) 58 x p 0 (λ (z : x ≡ 58). omega (arith, is, z))
-          ∙ ap (λ (k : ℕ). getD (set e 57 q) k 0) is ∙ getD-set-same e 57 q 0 here
-      by-tests false true ef eg =
-          let is : x ≡ 58 = eqb-true x 58 eg in
-          let here : 58 < length (set e 57 q) = rw (length-set e 57 q) (omega (arith, e-long)) in
-          ap (λ (k : ℕ). getD (set (set e 57 q) 58 p) k 0) is ∙ getD-set-same (set e 57 q) 58 p 0 here
-      by-tests false false ef eg =
-          getD-set-other (set e 57 q) 58 x p 0 (eqb-false x 58 eg)
-          ∙ getD-set-other e 57 x q 0 (eqb-false x 57 ef)
-          ∙ ap (λ (w : List ℕ). getD w x 0) ee ∙ at-tab 116 (unflagged i a b) x h
-
-  flagged : set (set e 57 q) 58 p ≡ burst i a p b q
-  unfolding burst
-  flagged = is-tab 116 (cell i a p b q) (set (set e 57 q) 58 p) (simp length-set e-long) at
+flags-set : (e : List ℕ) (q p x v : ℕ) → length e ≡ 116 → getD e x 0 ≡ v → getD (set (set e 57 q) 58 p) x 0 ≡ pick (eqb x 57) q (pick (eqb x 58) p v)
+flags-set e q p x v l is = by-tests (eqb x 57) (eqb x 58) refl refl
+  where
+    by-tests : (f g : Bool) → eqb x 57 ≡ f → eqb x 58 ≡ g → getD (set (set e 57 q) 58 p) x 0 ≡ pick f q (pick g p v)
+    by-tests true g ef eg =
+        let at : x ≡ 57 = eqb-true x 57 ef in
+        let here : 57 < length e = omega (arith, l) in
+        getD-set-other (set e 57 q) 58 x p 0 (λ (z : x ≡ 58). omega (arith, at, z))
+        ∙ ap (λ (k : ℕ). getD (set e 57 q) k 0) at ∙ getD-set-same e 57 q 0 here
+    by-tests false true ef eg =
+        let at : x ≡ 58 = eqb-true x 58 eg in
+        let here : 58 < length (set e 57 q) = rw (length-set e 57 q) (omega (arith, l)) in
+        ap (λ (k : ℕ). getD (set (set e 57 q) 58 p) k 0) at ∙ getD-set-same (set e 57 q) 58 p 0 here
+    by-tests false false ef eg = getD-set-other (set e 57 q) 58 x p 0 (eqb-false x 58 eg) ∙ getD-set-other e 57 x q 0 (eqb-false x 57 ef) ∙ is
 
 -- a burst out of blocks that stand twice
-unfoldable pub burstOfTwice : ℕ → List ℕ → ℕ → List ℕ → ℕ → List ℕ
-burstOfTwice i a p b q = set (set (tab 116 (laid i a b)) 57 q) 58 p
+unfoldable pub burstOfTwice : ℕ → List ℕ → List ℕ → ℕ → List ℕ
+burstOfTwice i a b flags = set (set (tab 116 (laid i a b)) 57 (flagIn flags (2 * i))) 58 (flagIn flags (2 * i + 1))
 
-burst-twice : (i : ℕ) (a : List ℕ) (p : ℕ) (b : List ℕ) (q : ℕ) → i < 4 → length a ≡ 456 → length b ≡ 456
-    → burstOfTwice i (a ++ a) p (b ++ b) q ≡ burst i a p b q
+pub length-twice : (i : ℕ) (a b : List ℕ) (flags : ℕ) → length (burstOfTwice i a b flags) ≡ 116
 unfolding burstOfTwice
-burst-twice i a p b q hi la lb =
-    flagged i a p b q (tab 116 (laid i (a ++ a) (b ++ b))) (tab-same 116 (laid i (a ++ a) (b ++ b)) (unflagged i a b) (stands i a b hi la lb))
+length-twice i a b flags =
+    let e = tab 116 (laid i a b) in
+    length-set (set e 57 (flagIn flags (2 * i))) 58 (flagIn flags (2 * i + 1)) ∙ length-set e 57 (flagIn flags (2 * i)) ∙ length-tab 116 (laid i a b)
+
+module _ (a b : List ℕ) (flags : ℕ) (la : length a ≡ 456) (lb : length b ≡ 456) where
+  burst-at : (i x : ℕ) → i < 4 → x < 116 → getD (burstOfTwice i (a ++ a) (b ++ b) flags) x 0 ≡ cell i a b flags x
+  unfolding burstOfTwice cell unflagged
+  burst-at i x hi h =
+      let two = laid i (a ++ a) (b ++ b) in
+      flags-set (tab 116 two) (flagIn flags (2 * i)) (flagIn flags (2 * i + 1)) x (unflagged i a b x)
+      (length-tab 116 two) (at-tab 116 two x h ∙ stands i a b hi la lb x h)
+
+  burst-twice : (i : ℕ) → i < 4 → burstOfTwice i (a ++ a) (b ++ b) flags ≡ burst i a b flags
+  unfolding burst
+  burst-twice i hi =
+      is-tab 116 (cell i a b flags) (burstOfTwice i (a ++ a) (b ++ b) flags) (length-twice i (a ++ a) (b ++ b) flags) (λ x h. burst-at i x hi h)
 
 -- ---- four of them, each in its part of a buffer
-unfoldable pub fourOfTwice : List ℕ → ℕ → List ℕ → ℕ → List ℕ
-fourOfTwice a p b q = burstOfTwice 0 a p b q ++ (burstOfTwice 1 a p b q ++ (burstOfTwice 2 a p b q ++ burstOfTwice 3 a p b q))
+unfoldable pub fourOfTwice : List ℕ → List ℕ → ℕ → List ℕ
+fourOfTwice a b flags = burstOfTwice 0 a b flags ++ (burstOfTwice 1 a b flags ++ (burstOfTwice 2 a b flags ++ burstOfTwice 3 a b flags))
 
-pub length-twice : (i : ℕ) (a : List ℕ) (p : ℕ) (b : List ℕ) (q : ℕ) → length (burstOfTwice i a p b q) ≡ 116
-unfolding burstOfTwice
-length-twice i a p b q = length-set (set (tab 116 (laid i a b)) 57 q) 58 p ∙ length-set (tab 116 (laid i a b)) 57 q ∙ length-tab 116 (laid i a b)
-
-pub parts-twice : (a : List ℕ) (p : ℕ) (b : List ℕ) (q : ℕ) (e w x y z : List ℕ) → length e ≡ 464
-    → w ≡ burstOfTwice 0 a p b q → x ≡ burstOfTwice 1 a p b q → y ≡ burstOfTwice 2 a p b q → z ≡ burstOfTwice 3 a p b q
-    → put 348 116 z (put 232 116 y (put 116 116 x (put 0 116 w e))) ≡ fourOfTwice a p b q
+pub parts-twice : (a b : List ℕ) (flags : ℕ) (e w x y z : List ℕ) → length e ≡ 464
+    → w ≡ burstOfTwice 0 a b flags → x ≡ burstOfTwice 1 a b flags → y ≡ burstOfTwice 2 a b flags → z ≡ burstOfTwice 3 a b flags
+    → put 348 116 z (put 232 116 y (put 116 116 x (put 0 116 w e))) ≡ fourOfTwice a b flags
 unfolding fourOfTwice
-parts-twice a p b q e w x y z l ew ex ey ez =
-    put-four 116 e w x y z l (ap length ew ∙ length-twice 0 a p b q) (ap length ex ∙ length-twice 1 a p b q) (ap length ey ∙ length-twice 2 a p b q)
+parts-twice a b flags e w x y z l ew ex ey ez =
+    put-four 116 e w x y z l (ap length ew ∙ length-twice 0 a b flags) (ap length ex ∙ length-twice 1 a b flags) (ap length ey ∙ length-twice 2 a b flags)
     ∙ rw (ew, ex, ey, ez)
 
-pub four-twice : (a : List ℕ) (p : ℕ) (b : List ℕ) (q : ℕ) → length a ≡ 456 → length b ≡ 456 → fourOfTwice (a ++ a) p (b ++ b) q ≡ four a p b q
+pub four-twice : (a b : List ℕ) (flags : ℕ) → length a ≡ 456 → length b ≡ 456 → fourOfTwice (a ++ a) (b ++ b) flags ≡ four a b flags
 unfolding fourOfTwice four
-four-twice a p b q la lb =
-    rw (burst-twice 0 a p b q (lit< tt) la lb, burst-twice 1 a p b q (lit< tt) la lb, burst-twice 2 a p b q (lit< tt) la lb, burst-twice 3 a p b q (lit< tt) la lb)
+four-twice a b flags la lb =
+    let is = burst-twice a b flags la lb in
+    rw (is 0 (lit< tt), is 1 (lit< tt), is 2 (lit< tt), is 3 (lit< tt))

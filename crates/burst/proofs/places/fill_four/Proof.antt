@@ -12,8 +12,8 @@ returns c =
     let start = c .before .before .before .before .before .before .before .before .before .before .before .before .before .before .before in
     let s = start .args in
     c .before .before .fill-parts .ensures
-    ∙ ap₂ (λ (a b : List ℕ). fourOfTwice a (s .p) b (s .q)) (c .before .before .before .before .before .before .before .before .before .before .twice .ensures) (c .before .before .before .before .before .before .before .twice2 .ensures)
-    ∙ four-twice (s .a .now) (s .p) (s .b .now) (s .q) (start .pre .0) (start .pre .1)
+    ∙ ap₂ (λ (a b : List ℕ). fourOfTwice a b (s .flags)) (c .before .before .before .before .before .before .before .before .before .before .twice .ensures) (c .before .before .before .before .before .before .before .twice2 .ensures)
+    ∙ four-twice (s .a .now) (s .b .now) (s .flags) (start .pre .0) (start .pre .1)
 
 pub fill-four-spec : {M : Type 1} → statement M
 fill-four-spec =

@@ -12,7 +12,7 @@ returns c =
     let f₃ = c .before .before .before .before .before .before .fill3 in
     let f₄ = c .before .before .fill4 in
     let s = start .args in
-    parts-twice (s .a .now) (s .p) (s .b .now) (s .q) (s .e .now) (f₁ .last .1 .1 .1 .1 .1 .0) (f₂ .last .1 .1 .1 .1 .1 .0) (f₃ .last .1 .1 .1 .1 .1 .0) (f₄ .last .1 .1 .1 .1 .1 .0)
+    parts-twice (s .a .now) (s .b .now) (s .flags) (s .e .now) (f₁ .last .1 .1 .1 .1 .0) (f₂ .last .1 .1 .1 .1 .0) (f₃ .last .1 .1 .1 .1 .0) (f₄ .last .1 .1 .1 .1 .0)
     (start .pre .2) (f₁ .ensures) (f₂ .ensures) (f₃ .ensures) (f₄ .ensures)
 
 pub fill-parts-spec : {M : Type 1} → statement M
