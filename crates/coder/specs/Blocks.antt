@@ -34,9 +34,9 @@ controlU d = d ++ (parity controlG d ++ zeros 4)
 unfoldable pub controlBlock : List ℕ → List ℕ
 controlBlock d = coded (controlU d)
 
--- 000, 4.1.4, 4.1.5: the block over four bursts, even and odd places alike, all flags 1
+-- 000, 4.1.4, 4.1.5: the block over four bursts, even and odd places alike, all eight flags 1
 unfoldable pub sacchMessage : List ℕ → List ℕ
-sacchMessage d = four (controlBlock d) 1 (controlBlock d) 1
+sacchMessage d = four (controlBlock d) (controlBlock d) 0b11111111
 
 -- 000, 4.6: C(k) = p(k) + b(k), where b(0) is the highest bit of the identity and b(5) the lowest
 unfoldable pub colour : ℕ → List ℕ → List ℕ

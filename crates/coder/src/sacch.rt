@@ -17,7 +17,7 @@ pub(crate) fn code(d: &[u8], e: &mut [u8])
 {
     let mut c = [0u8; 456];
     crate::block::code(CONTROL, 0, d, &mut c);
-    burst::fill_four(&c, 1, &c, 1, e);
+    burst::fill_four(&c, &c, 0b11111111, e);
 }
 
 // The control block out of its four bursts; the flags are not used.

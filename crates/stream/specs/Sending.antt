@@ -5,13 +5,14 @@ use Prim.Native.Nat.{ℕ, _+_}
 use lib.Dec.{eqb, leb}
 use lib.ListN.{length}
 use Rattle.bits.specs.Bits.{pick, both, allBits, zeros}
-use Rattle.burst.specs.Places.{four}
+use Rattle.answers.specs.Answers.{Answer}
+use Rattle.answers.specs.declared.Refusal.the-variants.{Length, NotBits, Full, NothingSent, Ended}
+use Rattle.answers.specs.declared.Told.{Told}
+use Rattle.answers.specs.declared.Told.the-variants.{Done, Refused}
+use Rattle.burst.specs.Places.{four, flagsOf}
 use Rattle.coder.specs.Blocks.{speechBlock, controlBlock}
-use Rattle.stream.specs.Answers.{Answer}
-use Rattle.stream.specs.declared.Refusal.the-variants.{Length, NotBits, Full, NothingSent, Ended}
-use Rattle.stream.specs.declared.Told.{Told}
-use Rattle.stream.specs.declared.Told.the-variants.{Done, Refused}
 use Rattle.stream.specs.declared.sender.Sender.{Sender}
+use Rattle.stream.specs.declared.sender.Sent.{Sent}
 
 -- 260 bytes are speech, 184 FACCH
 abbrev pub isFacch : ℕ → Bool
@@ -44,17 +45,17 @@ sendTold s d e = sendJudged (both (isBlock (length d)) (eqb (length e) 464)) (al
 
 -- block d begins in four bursts, in which the last block goes on
 unfoldable pub sentBursts : Sender → List ℕ → List ℕ
-sentBursts s d = four (blockOf d) (flagOf (isFacch (length d))) (s .last) (flagOf (s .facch))
+sentBursts s d = four (blockOf d) (s .last) (flagsOf (flagOf (isFacch (length d))) (flagOf (s .facch)))
 
 unfoldable pub sentNext : Sender → List ℕ → Sender
 sentNext s d = record { sent = record { 0 = s .sent .0 + 1 }; ended = s .ended; facch = isFacch (length d); last = blockOf d }
 
 -- done: the four bursts and the next stream; refused: all as before
-unfoldable pub afterwards : Told → List ℕ → Sender → List ℕ → Sender → Answer Told Sender
-afterwards Done bursts next e s = record { told = Done; left = bursts; next = next }
-afterwards (Refused r) bursts next e s = record { told = Refused r; left = e; next = s }
+unfoldable pub afterwards : Told → List ℕ → Sender → List ℕ → Sender → Answer Sent
+afterwards Done bursts next e s = record { result = record { told = Done; next = next }; left = bursts }
+afterwards (Refused r) bursts next e s = record { result = record { told = Refused r; next = s }; left = e }
 
-unfoldable pub sendAnswer : Sender → List ℕ → List ℕ → Answer Told Sender
+unfoldable pub sendAnswer : Sender → List ℕ → List ℕ → Answer Sent
 sendAnswer s d e = afterwards (sendTold s d e) (sentBursts s d) (sentNext s d) e s
 
 -- ---- end. 01: where several apply, 1, 7, 6; end is allowed at 16,383 blocks
@@ -69,10 +70,10 @@ endTold s e = endJudged (eqb (length e) 464) (s .ended) (eqb (s .sent .0) 0)
 
 -- the last block goes on, and none begins
 unfoldable pub endBursts : Sender → List ℕ
-endBursts s = four (zeros 456) 0 (s .last) (flagOf (s .facch))
+endBursts s = four (zeros 456) (s .last) (flagsOf 0 (flagOf (s .facch)))
 
 unfoldable pub endNext : Sender → Sender
 endNext s = record { sent = s .sent; ended = true; facch = s .facch; last = s .last }
 
-unfoldable pub endAnswer : Sender → List ℕ → Answer Told Sender
+unfoldable pub endAnswer : Sender → List ℕ → Answer Sent
 endAnswer s e = afterwards (endTold s e) (endBursts s) (endNext s) e s

@@ -1,3 +1,3 @@
-pub mod Answers
+pub mod Settled
 pub mod Sending
 pub mod Receiving

@@ -1,17 +1,19 @@
 // The receiver: it takes bursts one by one and holds the last eight; burst 4n+7 brings the answer for block n (01, Bursts and streams).
-use crate::Refusal;
 use crate::Taken;
-use crate::Told;
+use answers::Heard;
+use answers::Refusal;
+use answers::Told;
 use burst::BlockNumber;
 use burst::BurstNumber;
+use burst::Ending;
 ghost use mathlib.Core.Path.{_≡_};
-ghost use Prim.Native.Nat.{_+_, _<_};
+ghost use Prim.Native.Nat.{_<_};
 ghost use lib.Dec.{eqb, leb};
 ghost use lib.ListN.{length};
+ghost use Rattle.answers.specs.Answers.{Meets};
 ghost use Rattle.bits.specs.Bits.{allBits, both};
-ghost use Rattle.burst.specs.Places.{kept, own, flagCount};
-ghost use Rattle.stream.specs.Answers.{Meets};
-ghost use Rattle.stream.specs.Receiving.{freshReceiver, takeJudged, vote, byKind, brought, answered, takeAnswer};
+ghost use Rattle.burst.specs.Held.{heldBlock};
+ghost use Rattle.stream.specs.Receiving.{freshReceiver, takeJudged, vote, byKind, blockAnswer, burstAnswer, takeAnswer};
 ghost use Rattle.stream.specs.laws.Receiving.{asTaken};
 ghost use Rattle.stream.specs.declared.receiver.Kind.the-variants.{Speech, Facch};
 
@@ -35,8 +37,8 @@ pub enum Kind {
 }
 
 // The first refusal that applies, or none: 1, 2, 5, 4.
-fn judge_take(e: &[u8], out: usize, next: u32, number: u32) -> Told
-    ensures { λ r. ⌜ r ≡ takeJudged (both (eqb (length (now (e .entry))) 116) (eqb out 260)) (allBits (now (e .entry))) (leb 65536 next) (eqb number next) ⌝ }
+fn judge_take(e: &[u8], out: usize, next: BurstNumber, b: BurstNumber) -> Told
+    ensures { λ r. ⌜ r ≡ takeJudged (both (eqb (length (now (e .entry))) 116) (eqb out 260)) (allBits (now (e .entry))) (leb 65536 (next .0)) (eqb (b .0) (next .0)) ⌝ }
 {
     if e.len() != 116 {
         return Told::Refused(Refusal::Length);
@@ -47,29 +49,20 @@ fn judge_take(e: &[u8], out: usize, next: u32, number: u32) -> Told
     if !bits::are_bits(e) {
         return Told::Refused(Refusal::NotBits);
     }
-    if next >= 65536 {
+    if next.0 >= 65536 {
         return Told::Refused(Refusal::Full);
     }
-    if number != next {
+    if b.0 != next.0 {
         return Told::Refused(Refusal::OutOfTurn);
     }
     Told::Done
 }
 
-// Burst B is put in its place.
-fn keep(b: BurstNumber, e: &[u8], held: &mut [u8])
-    requires { ⌜ (length (now e) ≡ 116) × (length (now held) ≡ 928) ⌝ }
-    ensures { λ _. ⌜ now (held .exit) ≡ kept (now (held .entry)) (b .0) (now (e .entry)) ⌝ }
+// 01: the flags' ones are counted; 0 to 3 mean speech, 5 to 8 FACCH; 4 is neither.
+fn vote(flags: u8) -> Kind
+    ensures { λ r. ⌜ r ≡ vote flags ⌝ }
 {
-    let from = burst::held_at(b);
-    let to = from + 116;
-    bits::copy(e, &mut held[from..to]);
-}
-
-// 01: 0 to 3 ones mean speech, 5 to 8 FACCH; 4 is neither.
-fn vote(ones: u32) -> Kind
-    ensures { λ r. ⌜ r ≡ vote ones ⌝ }
-{
+    let ones = u8::count_ones(flags);
     if ones < 4 {
         return Kind::Speech;
     }
@@ -79,84 +72,64 @@ fn vote(ones: u32) -> Kind
     Kind::Neither
 }
 
-// The coded bits of block n.
-fn own(n: u16, held: &[u8], c: &mut [u8])
-    requires { ⌜ (length (now held) ≡ 928) × (length (now c) ≡ 456) ⌝ }
-    ensures { λ _. ⌜ now (c .exit) ≡ own (now (held .entry)) n ⌝ }
-{
-    burst::gather_eight(burst::first_burst(BlockNumber(n)), held, c);
-}
-
-// The kind that the eight flags of block n say.
-fn kind_of(n: u16, held: &[u8]) -> Kind
-    requires { ⌜ length (now held) ≡ 928 ⌝ }
-    ensures { λ k. ⌜ k ≡ vote (flagCount (now (held .entry)) n) ⌝ }
-{
-    vote(burst::count_flags(burst::first_burst(BlockNumber(n)), held))
-}
-
 // What coder's entry says of block n, as take says it.
-fn say(facch: bool, n: u16, heard: coder::Heard) -> Taken
-    ensures { λ r. ⌜ r ≡ asTaken facch n heard ⌝ }
+fn as_taken(facch: bool, n: BlockNumber, heard: Heard) -> Taken
+    ensures { λ r. ⌜ r ≡ asTaken facch (n .0) heard ⌝ }
 {
     match heard {
-        coder::Heard::Good(count) => {
+        Heard::Good(count) => {
             if facch {
-                Taken::Facch(BlockNumber(n), count)
+                Taken::Facch(n, count)
             } else {
-                Taken::Speech(BlockNumber(n), count)
+                Taken::Speech(n, count)
             }
         }
-        coder::Heard::Bad(count) => Taken::Bad(BlockNumber(n), count),
-        // never: the block is 456 bits, and there is room for it
-        coder::Heard::Refused(_) => Taken::Waiting,
+        Heard::Bad(count) => Taken::Bad(n, count),
+        Heard::Refused(why) => Taken::Refused(why),
     }
 }
 
 // Block n as speech.
-fn speech(n: u16, held: &[u8], d: &mut [u8]) -> Taken
+fn receive_speech(n: BlockNumber, held: &[u8], d: &mut [u8]) -> Taken
     requires { ⌜ (length (now held) ≡ 928) × (length (now d) ≡ 260) ⌝ }
-    ensures { λ r. ⌜ (r ≡ byKind Speech n (own (now (held .entry)) n) (now (d .entry)) .told) × (now (d .exit) ≡ byKind Speech n (own (now (held .entry)) n) (now (d .entry)) .left) ⌝ }
+    ensures { λ r. ⌜ Meets (byKind Speech (n .0) (heldBlock (now (held .entry)) (n .0)) (now (d .entry))) r (now (d .exit)) ⌝ }
 {
     let mut c = [0u8; 456];
-    own(n, held, &mut c);
-    say(false, n, coder::receive_speech(&c, d))
+    burst::gather_block(n, held, &mut c);
+    as_taken(false, n, coder::receive_speech(&c, d))
 }
 
 // Block n as FACCH; the last 76 bytes are left.
-fn facch(n: u16, held: &[u8], d: &mut [u8]) -> Taken
+fn receive_facch(n: BlockNumber, held: &[u8], d: &mut [u8]) -> Taken
     requires { ⌜ (length (now held) ≡ 928) × (length (now d) ≡ 260) ⌝ }
-    ensures { λ r. ⌜ (r ≡ byKind Facch n (own (now (held .entry)) n) (now (d .entry)) .told) × (now (d .exit) ≡ byKind Facch n (own (now (held .entry)) n) (now (d .entry)) .left) ⌝ }
+    ensures { λ r. ⌜ Meets (byKind Facch (n .0) (heldBlock (now (held .entry)) (n .0)) (now (d .entry))) r (now (d .exit)) ⌝ }
 {
     let mut c = [0u8; 456];
-    own(n, held, &mut c);
-    say(true, n, coder::receive_control(&c, &mut d[0..184]))
+    burst::gather_block(n, held, &mut c);
+    as_taken(true, n, coder::receive_control(&c, &mut d[0..184]))
 }
 
 // Block n, of the kind that its flags say.
-fn bring(n: u16, held: &[u8], d: &mut [u8]) -> Taken
+fn receive_block(n: BlockNumber, held: &[u8], d: &mut [u8]) -> Taken
     requires { ⌜ (length (now held) ≡ 928) × (length (now d) ≡ 260) ⌝ }
-    ensures { λ r. ⌜ (r ≡ brought (now (held .entry)) n (now (d .entry)) .told) × (now (d .exit) ≡ brought (now (held .entry)) n (now (d .entry)) .left) ⌝ }
+    ensures { λ r. ⌜ Meets (blockAnswer (now (held .entry)) (n .0) (now (d .entry))) r (now (d .exit)) ⌝ }
 {
-    match kind_of(n, held) {
-        Kind::Speech => speech(n, held, d),
-        Kind::Facch => facch(n, held, d),
-        Kind::Neither => Taken::Tie(BlockNumber(n)),
+    match vote(burst::gather_flags(n, held)) {
+        Kind::Speech => receive_speech(n, held, d),
+        Kind::Facch => receive_facch(n, held, d),
+        Kind::Neither => Taken::Tie(n),
     }
 }
 
-// What burst B brings: the answer for block n where B = 4n+7, else nothing yet.
-fn answer(b: u32, held: &[u8], d: &mut [u8]) -> Taken
-    requires { ⌜ (b < 65536) × (length (now held) ≡ 928) × (length (now d) ≡ 260) ⌝ }
-    ensures { λ r. ⌜ (r ≡ answered (now (held .entry)) b (now (d .entry)) .told) × (now (d .exit) ≡ answered (now (held .entry)) b (now (d .entry)) .left) ⌝ }
+// What burst B brings: the answer for the block that it ends, else nothing yet.
+fn answer(b: BurstNumber, held: &[u8], d: &mut [u8]) -> Taken
+    requires { ⌜ (b .0 < 65536) × (length (now held) ≡ 928) × (length (now d) ≡ 260) ⌝ }
+    ensures { λ r. ⌜ Meets (burstAnswer (now (held .entry)) (b .0) (now (d .entry))) r (now (d .exit)) ⌝ }
 {
-    if b < 7 {
-        return Taken::Waiting;
+    match burst::block_ended(b) {
+        Ending::Block(n) => receive_block(n, held, d),
+        Ending::Nothing => Taken::Waiting,
     }
-    if b % 4 != 3 {
-        return Taken::Waiting;
-    }
-    bring((b / 4 - 1) as u16, held, d)
 }
 
 impl Receiver {
@@ -172,10 +145,9 @@ impl Receiver {
 
     // Takes burst B, 116 bits; a block that it brings is written to d, 260 bytes.
     pub fn take(mut self, b: BurstNumber, e: &[u8], d: &mut [u8]) -> Received
-        ensures { λ r. ⌜ Meets (takeAnswer self (b .0) (now (e .entry)) (now (d .entry))) (r .told) (now (d .exit)) (r .next) ⌝ }
+        ensures { λ r. ⌜ Meets (takeAnswer self (b .0) (now (e .entry)) (now (d .entry))) r (now (d .exit)) ⌝ }
     {
-        let number = b.0;
-        let told = judge_take(e, d.len(), self.next.0, number);
+        let told = judge_take(e, d.len(), self.next, b);
         match told {
             Told::Refused(why) => Received {
                 told: Taken::Refused(why),
@@ -183,9 +155,9 @@ impl Receiver {
             },
             Told::Done => {
                 let mut held = self.held;
-                keep(b, e, &mut held);
-                let told = answer(number, &held, d);
-                let next = BurstNumber(number + 1);
+                burst::hold(b, e, &mut held);
+                let told = answer(b, &held, d);
+                let next = burst::next_burst(b);
                 self.next = next;
                 self.held = held;
                 Received { told, next: self }

@@ -1,20 +1,21 @@
 // The sender: block n begins in the bursts 4n to 4n+3, which it writes, and goes on in the four after them (01, Bursts and streams).
-use crate::Refusal;
-use crate::Told;
+use answers::Refusal;
+use answers::Told;
+use burst::BlockNumber;
 ghost use mathlib.Core.Path.{_≡_};
 ghost use mathlib.Core.Bool.{true, false};
-ghost use Prim.Native.Nat.{_+_};
+ghost use Prim.Native.Nat.{_≤_};
 ghost use lib.Dec.{eqb, leb};
 ghost use lib.ListN.{length};
 ghost use Rattle.bits.specs.Bits.{Bits, allBits, both};
-ghost use Rattle.burst.specs.Places.{four};
-ghost use Rattle.stream.specs.Answers.{Meets};
+ghost use Rattle.answers.specs.Answers.{Meets};
+ghost use Rattle.burst.specs.Places.{four, flagsOf};
 ghost use Rattle.stream.specs.Sending.{freshSender, isFacch, isBlock, blockOf, flagOf, sendJudged, endJudged, sendAnswer, endAnswer};
 ghost use Rattle.stream.specs.laws.Sending.{Codable};
 
 // How many blocks are sent, whether the stream is ended, and the last block, which is still to go on, with its kind.
 pub struct Sender {
-    sent: burst::BlockNumber,
+    sent: BlockNumber,
     ended: bool,
     facch: bool,
     last: [u8; 456],
@@ -37,8 +38,8 @@ fn is_block(n: usize) -> bool
 }
 
 // The first refusal that applies to a send, or none: 1, 2, 7, 5.
-fn judge_send(d: &[u8], out: usize, ended: bool, sent: u16) -> Told
-    ensures { λ r. ⌜ r ≡ sendJudged (both (isBlock (length (now (d .entry)))) (eqb out 464)) (allBits (now (d .entry))) ended (leb 16383 sent) ⌝ }
+fn judge_send(d: &[u8], out: usize, ended: bool, sent: BlockNumber) -> Told
+    ensures { λ r. ⌜ r ≡ sendJudged (both (isBlock (length (now (d .entry)))) (eqb out 464)) (allBits (now (d .entry))) ended (leb 16383 (sent .0)) ⌝ }
 {
     if !is_block(d.len()) {
         return Told::Refused(Refusal::Length);
@@ -52,15 +53,15 @@ fn judge_send(d: &[u8], out: usize, ended: bool, sent: u16) -> Told
     if ended {
         return Told::Refused(Refusal::Ended);
     }
-    if sent >= 16383 {
+    if sent.0 >= 16383 {
         return Told::Refused(Refusal::Full);
     }
     Told::Done
 }
 
 // The first refusal that applies to an end, or none: 1, 7, 6.
-fn judge_end(out: usize, ended: bool, sent: u16) -> Told
-    ensures { λ r. ⌜ r ≡ endJudged (eqb out 464) ended (eqb sent 0) ⌝ }
+fn judge_end(out: usize, ended: bool, sent: BlockNumber) -> Told
+    ensures { λ r. ⌜ r ≡ endJudged (eqb out 464) ended (eqb (sent .0) 0) ⌝ }
 {
     if out != 464 {
         return Told::Refused(Refusal::Length);
@@ -68,7 +69,7 @@ fn judge_end(out: usize, ended: bool, sent: u16) -> Told
     if ended {
         return Told::Refused(Refusal::Ended);
     }
-    if sent == 0 {
+    if sent.0 == 0 {
         return Told::Refused(Refusal::NothingSent);
     }
     Told::Done
@@ -88,18 +89,18 @@ fn code(d: &[u8], c: &mut [u8])
 
 // The flag of a kind: 0 for speech, 1 for FACCH.
 fn flag(facch: bool) -> u8
-    ensures { λ r. ⌜ r ≡ flagOf facch ⌝ }
+    ensures { λ r. ⌜ (r ≡ flagOf facch) × (r ≤ 1) ⌝ }
 {
     if facch { 1 } else { 0 }
 }
 
-// Block d begins in four bursts, in which the last one goes on; what is left of d to send is its coded bits.
+// Block d begins in four bursts, in which the last one, whose flag is q, goes on; what is left of d to send is its coded bits.
 fn begin(d: &[u8], last: &[u8], q: u8, block: &mut [u8], e: &mut [u8])
-    requires { ⌜ Codable (now d) (now last) (now block) (now e) ⌝ }
-    ensures { λ _. ⌜ (now (block .exit) ≡ blockOf (now (d .entry))) × (now (e .exit) ≡ four (blockOf (now (d .entry))) (flagOf (isFacch (length (now (d .entry))))) (now (last .entry)) q) ⌝ }
+    requires { ⌜ (Codable (now d) (now last) (now block) (now e)) × (q ≤ 1) ⌝ }
+    ensures { λ _. ⌜ (now (block .exit) ≡ blockOf (now (d .entry))) × (now (e .exit) ≡ four (blockOf (now (d .entry))) (now (last .entry)) (flagsOf (flagOf (isFacch (length (now (d .entry))))) q)) ⌝ }
 {
     code(d, block);
-    burst::fill_four(block, flag(d.len() == 184), last, q, e);
+    burst::fill_four(block, last, burst::flags_of(flag(d.len() == 184), q), e);
 }
 
 impl Sender {
@@ -108,7 +109,7 @@ impl Sender {
         ensures { λ r. ⌜ r ≡ freshSender ⌝ }
     {
         Self {
-            sent: burst::BlockNumber(0),
+            sent: BlockNumber(0),
             ended: false,
             facch: false,
             last: [0; 456],
@@ -117,14 +118,14 @@ impl Sender {
 
     // Sends a block, 260 bits of speech or 184 of FACCH, into four bursts, 464 bytes.
     pub fn send(mut self, d: &[u8], e: &mut [u8]) -> Sent
-        ensures { λ r. ⌜ Meets (sendAnswer self (now (d .entry)) (now (e .entry))) (r .told) (now (e .exit)) (r .next) ⌝ }
+        ensures { λ r. ⌜ Meets (sendAnswer self (now (d .entry)) (now (e .entry))) r (now (e .exit)) ⌝ }
     {
-        let told = judge_send(d, e.len(), self.ended, self.sent.0);
+        let told = judge_send(d, e.len(), self.ended, self.sent);
         if let Told::Done = told {
             let last = self.last;
             let mut block = [0u8; 456];
             begin(d, &last, flag(self.facch), &mut block, e);
-            let sent = burst::BlockNumber(self.sent.0 + 1);
+            let sent = burst::next_block(self.sent);
             self.sent = sent;
             self.facch = d.len() == 184;
             self.last = block;
@@ -135,13 +136,13 @@ impl Sender {
 
     // Ends the stream: the last block goes on in four more bursts, in which no block begins.
     pub fn end(mut self, e: &mut [u8]) -> Sent
-        ensures { λ r. ⌜ Meets (endAnswer self (now (e .entry))) (r .told) (now (e .exit)) (r .next) ⌝ }
+        ensures { λ r. ⌜ Meets (endAnswer self (now (e .entry))) r (now (e .exit)) ⌝ }
     {
-        let told = judge_end(e.len(), self.ended, self.sent.0);
+        let told = judge_end(e.len(), self.ended, self.sent);
         if let Told::Done = told {
             let nothing = [0u8; 456];
             let last = self.last;
-            burst::fill_four(&nothing, 0, &last, flag(self.facch), e);
+            burst::fill_four(&nothing, &last, burst::flags_of(0, flag(self.facch)), e);
             self.ended = true;
             return Sent { told, next: self };
         }

@@ -9,7 +9,7 @@ use borrow.Author.Tests.{lt-ltb, le-ltb}
 use Rattle.bits.specs.laws.Cases.{lt-or-le}
 use Rattle.bits.specs.laws.Tab.{at-tab}
 use Rattle.burst.specs.Places.{eAt}
-use Rattle.burst.specs.laws.Four.{cell-bit, cell-hl, cell-hu, four-at}
+use Rattle.burst.specs.laws.Four.{cell-bit, cell-hl, cell-hu, four-at, flag-sacch}
 use Rattle.burst.specs.laws.Places.{every-bit}
 use Rattle.coder.specs.Blocks.{speechP, speechUAt, speechU, controlBlock, sacchMessage}
 
@@ -48,14 +48,14 @@ module _ (d : List ℕ) where
   unfolding sacchMessage
   sacch-bit k h =
       let c = controlBlock d in
-      four-at c 1 c 1 (k % 4) (eAt k) (omega arith) (every-bit k h .within)
-      ∙ cell-bit c 1 c 1 (k % 4) k h refl
+      four-at c c 255 (k % 4) (eAt k) (omega arith) (every-bit k h .within)
+      ∙ cell-bit c c 255 (k % 4) k h refl
       ∙ ⊎-elim (λ (l : k % 8 < 4). rw (lt-ltb (k % 8) 4 l)) (λ (l : 4 ≤ k % 8). rw (le-ltb (k % 8) 4 l)) (lt-or-le (k % 8) 4)
 
   pub sacch-hl : (i : ℕ) → i < 4 → getD (sacchMessage d) (116 * i + 57) 0 ≡ 1
   unfolding sacchMessage
-  sacch-hl i h = four-at (controlBlock d) 1 (controlBlock d) 1 i 57 h (omega arith) ∙ cell-hl (controlBlock d) 1 (controlBlock d) 1 i
+  sacch-hl i h = let c = controlBlock d in four-at c c 255 i 57 h (omega arith) ∙ cell-hl c c 255 i ∙ flag-sacch (2 * i) (omega arith)
 
   pub sacch-hu : (i : ℕ) → i < 4 → getD (sacchMessage d) (116 * i + 58) 0 ≡ 1
   unfolding sacchMessage
-  sacch-hu i h = four-at (controlBlock d) 1 (controlBlock d) 1 i 58 h (omega arith) ∙ cell-hu (controlBlock d) 1 (controlBlock d) 1 i
+  sacch-hu i h = let c = controlBlock d in four-at c c 255 i 58 h (omega arith) ∙ cell-hu c c 255 i ∙ flag-sacch (2 * i + 1) (omega arith)

@@ -10,17 +10,16 @@ use borrow.Author.Tests.{eqb-true, leb-false, eq-eqb, ne-eqb, lt-leb}
 use Rattle.bits.specs.Bits.{Bits, pick, both, allBits}
 use Rattle.bits.specs.laws.Cases.{both-first, both-second}
 use Rattle.bits.specs.laws.Check.{all-bits, bits-all}
-use Rattle.coder.specs.Answers as coder
+use Rattle.answers.specs.Answers.{Answer, Meets}
+use Rattle.answers.specs.declared.Refusal.{Refusal}
+use Rattle.answers.specs.declared.Told.{Told}
+use Rattle.answers.specs.declared.Told.the-variants.{Done, Refused}
 use Rattle.coder.specs.Blocks.{speechBlock, controlBlock}
 use Rattle.coder.specs.Entries.{speechSent, controlSent}
-use Rattle.coder.specs.laws.Promises.{sends}
-use Rattle.coder.specs.declared.Told as coded
-use Rattle.stream.specs.Answers.{Meets}
+use Rattle.coder.specs.laws.Entries.{sends}
 use Rattle.stream.specs.Sending.{isFacch, isBlock, blockOf, sendJudged, sendTold, sentBursts, sentNext, sendAnswer, endJudged, endTold, endBursts, endNext, endAnswer, afterwards}
-use Rattle.stream.specs.declared.Refusal.{Refusal}
-use Rattle.stream.specs.declared.Told.{Told}
-use Rattle.stream.specs.declared.Told.the-variants.{Done, Refused}
 use Rattle.stream.specs.declared.sender.Sender.{Sender}
+use Rattle.stream.specs.declared.sender.Sent.{Sent}
 
 -- ---- what `sender::begin` asks
 pub record Codable (d last block e : List ℕ) : Type 0 where
@@ -74,27 +73,27 @@ end-able s e r h f = eqb-true (length e) 464 (end-length (eqb (length e) 464) (s
 
 -- ---- the two ways in which a send or an end ends
 module _ (t : Told) (bursts : List ℕ) (next : Sender) (e : List ℕ) (s : Sender) (r : Told) (h : r ≡ t) where
-  pub done-afterwards : (after : List ℕ) (n : Sender) → r ≡ Done → after ≡ bursts → n ≡ next → Meets (afterwards t bursts next e s) r after n
+  pub done-afterwards : (after : List ℕ) (n : Sender) → r ≡ Done → after ≡ bursts → n ≡ next → Meets (afterwards t bursts next e s) (record { told = r; next = n }) after
   unfolding afterwards
-  done-afterwards after n f ea en = rw (← h, f) (record { told = refl; left = ea; next = en })
+  done-afterwards after n f ea en = rw (← h, f) (record { result = ap (λ (x : Sender). record { told = Done; next = x }) en; left = ea })
 
-  pub refused-afterwards : (x : Refusal) → r ≡ Refused x → Meets (afterwards t bursts next e s) r e s
+  pub refused-afterwards : (x : Refusal) → r ≡ Refused x → Meets (afterwards t bursts next e s) (record { told = r; next = s }) e
   unfolding afterwards
-  refused-afterwards x f = rw (← h, f) (record { told = refl; left = refl; next = refl })
+  refused-afterwards x f = rw (← h, f) (record { result = refl; left = refl })
 
 -- ---- what coder's entries write
 module _ (d c : List ℕ) (bd : Bits d) (lc : length c ≡ 456) where
-  pub control-coded : (r : coded.Told) (after : List ℕ) → length d ≡ 184 → coder.Meets (controlSent d c) r after → after ≡ blockOf d
+  pub control-coded : (r : Told) (after : List ℕ) → length d ≡ 184 → Meets (controlSent d c) r after → after ≡ blockOf d
   unfolding controlSent blockOf
   control-coded r after ld m =
-      m .left ∙ ap (λ (a : coder.Answer coded.Told). a .left) (sends 184 456 0 d c (lit≤ tt) (record { reads = ld; bits = bd; lends = lc }) (controlBlock d))
+      m .left ∙ ap (λ (a : Answer Told). a .left) (sends 184 456 0 d c (lit≤ tt) (record { reads = ld; bits = bd; lends = lc }) (controlBlock d))
       ∙ rw (eq-eqb (length d) 184 ld) refl
 
-  pub speech-coded : (r : coded.Told) (after : List ℕ) → isBlock (length d) ≡ true → (length d ≡ 184 → ⊥) → coder.Meets (speechSent d c) r after → after ≡ blockOf d
+  pub speech-coded : (r : Told) (after : List ℕ) → isBlock (length d) ≡ true → (length d ≡ 184 → ⊥) → Meets (speechSent d c) r after → after ≡ blockOf d
   unfolding speechSent blockOf
   speech-coded r after reads other m =
       let ld : length d ≡ 260 = is-speech (eqb (length d) 260) refl in
-      m .left ∙ ap (λ (a : coder.Answer coded.Told). a .left) (sends 260 456 0 d c (lit≤ tt) (record { reads = ld; bits = bd; lends = lc }) (speechBlock d))
+      m .left ∙ ap (λ (a : Answer Told). a .left) (sends 260 456 0 d c (lit≤ tt) (record { reads = ld; bits = bd; lends = lc }) (speechBlock d))
       ∙ rw (ne-eqb (length d) 184 other) refl
     where
       is-speech : (b : Bool) → eqb (length d) 260 ≡ b → length d ≡ 260
@@ -103,13 +102,13 @@ module _ (d c : List ℕ) (bd : Bits d) (lc : length c ≡ 456) where
 
 -- ---- a stream that is open and has room sends what may be sent, and ends where a block was sent
 pub sends-on : (s : Sender) (d e : List ℕ) → s .ended ≡ false → s .sent .0 < 16383 → isBlock (length d) ≡ true → Bits d → length e ≡ 464
-    → sendAnswer s d e ≡ record { told = Done; left = sentBursts s d; next = sentNext s d }
+    → sendAnswer s d e ≡ record { result = record { told = Done; next = sentNext s d }; left = sentBursts s d }
 unfolding sendAnswer sendTold sendJudged afterwards
 sends-on s d e unended room block bits le =
     rw (block, eq-eqb (length e) 464 le, bits-all d bits, unended, lt-leb 16383 (s .sent .0) room) refl
 
 pub ends-on : (s : Sender) (e : List ℕ) → s .ended ≡ false → 0 < s .sent .0 → length e ≡ 464
-    → endAnswer s e ≡ record { told = Done; left = endBursts s; next = endNext s }
+    → endAnswer s e ≡ record { result = record { told = Done; next = endNext s }; left = endBursts s }
 unfolding endAnswer endTold endJudged afterwards
 ends-on s e unended some le =
     let more : s .sent .0 ≡ 0 → ⊥ = λ (z : s .sent .0 ≡ 0). omega (arith, some, z) in

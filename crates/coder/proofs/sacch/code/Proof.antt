@@ -10,16 +10,16 @@ use Rattle.coder.specs.laws.Format.{control-fits}
 use Rattle.coder.proofs.sacch.code.Statement.{statement}
 use Rattle.coder.proofs.sacch.code.Tie as tie
 
-interleaved : (d c e : List ℕ) → c ≡ controlBlock d → e ≡ four c 1 c 1 → e ≡ sacchMessage d
+interleaved : (d c e : List ℕ) → c ≡ controlBlock d → e ≡ four c c 255 → e ≡ sacchMessage d
 unfolding sacchMessage
-interleaved d c e f g = g ∙ ap (λ (l : List ℕ). four l 1 l 1) f
+interleaved d c e f g = g ∙ ap (λ (l : List ℕ). four l l 255) f
 
 returns : tie.Need-returns
 returns c =
     let start = c .before .before .before .before .before .before .before .before .before .before .before in
     let coded = c .before .before .before .before .before .before .before .code in
     let laid = c .before .before .fill-four in
-    interleaved (start .args .d .now) (coded .last .1 .1 .1 .0) (laid .last .1 .1 .1 .1 .0)
+    interleaved (start .args .d .now) (coded .last .1 .1 .1 .0) (laid .last .1 .1 .1 .0)
     (control-is (start .args .d .now) (start .pre .0) (coded .last .1 .1 .1 .0) (coded .ensures)) (laid .ensures)
 
 pub code-spec : {M : Type 1} → statement M

@@ -21,10 +21,10 @@ returns-4 : tie.Need-returns-4
 unfolding takeJudged
 returns-4 c =
     simp (
-      eq-eqb _ _ (c .before .before .before .before .if1 .left),
-      eq-eqb _ _ (c .before .before .before .if2 .left),
-      ← c .before .before .are-bits .ensures,
-      not-false (c .before .before .are-bits .result) (c .before .if3 .left),
+      eq-eqb _ _ (c .before .before .before .before .before .if1 .left),
+      eq-eqb _ _ (c .before .before .before .before .if2 .left),
+      ← c .before .before .before .are-bits .ensures,
+      not-false (c .before .before .before .are-bits .result) (c .before .before .if3 .left),
       le-leb _ _ (c .if4 .taken),
     )
 
@@ -32,11 +32,11 @@ returns-5 : tie.Need-returns-5
 unfolding takeJudged
 returns-5 c =
     simp (
-      eq-eqb _ _ (c .before .before .before .before .before .if1 .left),
-      eq-eqb _ _ (c .before .before .before .before .if2 .left),
-      ← c .before .before .before .are-bits .ensures,
-      not-false (c .before .before .before .are-bits .result) (c .before .before .if3 .left),
-      lt-leb _ _ (c .before .if4 .left),
+      eq-eqb _ _ (c .before .before .before .before .before .before .before .before .if1 .left),
+      eq-eqb _ _ (c .before .before .before .before .before .before .before .if2 .left),
+      ← c .before .before .before .before .before .before .are-bits .ensures,
+      not-false (c .before .before .before .before .before .before .are-bits .result) (c .before .before .before .before .before .if3 .left),
+      lt-leb _ _ (c .before .before .before .if4 .left),
       ne-eqb _ _ (c .if5 .taken),
     )
 
@@ -44,11 +44,11 @@ returns-6 : tie.Need-returns-6
 unfolding takeJudged
 returns-6 c =
     simp (
-      eq-eqb _ _ (c .before .before .before .before .before .if1 .left),
-      eq-eqb _ _ (c .before .before .before .before .if2 .left),
-      ← c .before .before .before .are-bits .ensures,
-      not-false (c .before .before .before .are-bits .result) (c .before .before .if3 .left),
-      lt-leb _ _ (c .before .if4 .left),
+      eq-eqb _ _ (c .before .before .before .before .before .before .before .before .if1 .left),
+      eq-eqb _ _ (c .before .before .before .before .before .before .before .if2 .left),
+      ← c .before .before .before .before .before .before .are-bits .ensures,
+      not-false (c .before .before .before .before .before .before .are-bits .result) (c .before .before .before .before .before .if3 .left),
+      lt-leb _ _ (c .before .before .before .if4 .left),
       eq-eqb _ _ (c .if5 .left),
     )
 

@@ -14,11 +14,11 @@ returns-2 c = simp (eq-eqb _ _ (c .before .if1 .left), c .if2 .taken)
 
 returns-3 : tie.Need-returns-3
 unfolding endJudged
-returns-3 c = simp (eq-eqb _ _ (c .before .before .if1 .left), c .before .if2 .left, eq-eqb _ _ (c .if3 .taken))
+returns-3 c = simp (eq-eqb _ _ (c .before .before .before .if1 .left), c .before .before .if2 .left, eq-eqb _ _ (c .if3 .taken))
 
 returns-4 : tie.Need-returns-4
 unfolding endJudged
-returns-4 c = simp (eq-eqb _ _ (c .before .before .if1 .left), c .before .if2 .left, ne-eqb _ _ (c .if3 .left))
+returns-4 c = simp (eq-eqb _ _ (c .before .before .before .if1 .left), c .before .before .if2 .left, ne-eqb _ _ (c .if3 .left))
 
 pub judge-end-spec : {M : Type 1} → statement M
 judge-end-spec = tie.close (tie.spec returns returns-2 returns-3 returns-4)

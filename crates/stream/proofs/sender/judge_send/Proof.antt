@@ -40,12 +40,12 @@ returns-5 : tie.Need-returns-5
 unfolding sendJudged
 returns-5 c =
     simp (
-      ← c .before .before .before .before .before .before .is-block .ensures,
-      not-false (c .before .before .before .before .before .before .is-block .result) (c .before .before .before .before .before .if1 .left),
-      eq-eqb _ _ (c .before .before .before .before .if2 .left),
-      ← c .before .before .before .are-bits .ensures,
-      not-false (c .before .before .before .are-bits .result) (c .before .before .if3 .left),
-      c .before .if4 .left,
+      ← c .before .before .before .before .before .before .before .is-block .ensures,
+      not-false (c .before .before .before .before .before .before .before .is-block .result) (c .before .before .before .before .before .before .if1 .left),
+      eq-eqb _ _ (c .before .before .before .before .before .if2 .left),
+      ← c .before .before .before .before .are-bits .ensures,
+      not-false (c .before .before .before .before .are-bits .result) (c .before .before .before .if3 .left),
+      c .before .before .if4 .left,
       le-leb _ _ (c .if5 .taken),
     )
 
@@ -53,12 +53,12 @@ returns-6 : tie.Need-returns-6
 unfolding sendJudged
 returns-6 c =
     simp (
-      ← c .before .before .before .before .before .before .is-block .ensures,
-      not-false (c .before .before .before .before .before .before .is-block .result) (c .before .before .before .before .before .if1 .left),
-      eq-eqb _ _ (c .before .before .before .before .if2 .left),
-      ← c .before .before .before .are-bits .ensures,
-      not-false (c .before .before .before .are-bits .result) (c .before .before .if3 .left),
-      c .before .if4 .left,
+      ← c .before .before .before .before .before .before .before .is-block .ensures,
+      not-false (c .before .before .before .before .before .before .before .is-block .result) (c .before .before .before .before .before .before .if1 .left),
+      eq-eqb _ _ (c .before .before .before .before .before .if2 .left),
+      ← c .before .before .before .before .are-bits .ensures,
+      not-false (c .before .before .before .before .are-bits .result) (c .before .before .before .if3 .left),
+      c .before .before .if4 .left,
       lt-leb _ _ (c .if5 .left),
     )
 

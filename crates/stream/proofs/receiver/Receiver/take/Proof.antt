@@ -1,20 +1,22 @@
--- `stream::receiver::Receiver::take` is right: where every test holds, the burst is kept and brings its answer; else all stands as before.
+-- `stream::receiver::Receiver::take` is right: where every test holds, the burst is held and brings its answer; else all stands as before.
 use mathlib.Core.List.{List}
-use mathlib.Core.Path.{_≡_, ap, ap₂, _∙_}
+use mathlib.Core.Path.{_≡_, ap₂, subst, _∙_, ap}
 use Prim.Native.Nat.{ℕ, _+_}
 use native.Mathlib.Omega.{arith}
 use lib.ListN.{length}
-use borrow.Author.Needs.{needs}
-use Rattle.burst.specs.Places.{kept}
-use Rattle.stream.specs.Receiving.{Brought, answered, takeTold, takenNext, takeAnswer}
+use Rattle.answers.specs.Answers.{Answer, Meets}
+use Rattle.burst.specs.Ring.{kept}
+use Rattle.stream.specs.Receiving.{burstAnswer, takeTold, takenNext, takeAnswer}
 use Rattle.stream.specs.laws.Receiving.{take-able, done-taking, refused-taking}
+use Rattle.stream.specs.declared.Taken.{Taken}
 use Rattle.stream.specs.declared.receiver.Receiver.{Receiver}
+use borrow.Author.Needs.{needs}
 use Rattle.stream.proofs.receiver.Receiver.take.Statement.{statement}
 use Rattle.stream.proofs.receiver.Receiver.take.Tie as tie
 
-keep-requires : tie.Need-keep-requires
+hold-requires : tie.Need-hold-requires
 unfolding takeTold
-keep-requires c κs =
+hold-requires c κs =
     let s = c .before .before .before .before .before .before .before .args in
     let j = c .before .before .before .before .judge-take in
     let able = take-able (s .self) (s .b .0) (s .e .now) (s .d .now) (j .result) (j .ensures) (c .before .before .enum-told .given .1) in
@@ -27,12 +29,12 @@ answer-requires c κs =
     let s = c .before .before .before .before .before .before .before .before .before .before .before .args in
     let j = c .before .before .before .before .before .before .before .before .judge-take in
     let able = take-able (s .self) (s .b .0) (s .e .now) (s .d .now) (j .result) (j .ensures) (c .before .before .before .before .before .before .enum-told .given .1) in
-    let held : length (c .before .before .before .keep .last .1 .1 .0) ≡ 928 = search needs in
+    let held : length (c .before .before .before .hold .last .1 .1 .0) ≡ 928 = search needs in
     (omega (arith, able .room, able .turn), held, able .writes)
 
-add-t21 : tie.Need-add-t21
+next-burst-requires : tie.Need-next-burst-requires
 unfolding takeTold
-add-t21 c =
+next-burst-requires c κs =
     let s = c .before .before .before .before .before .before .before .before .before .before .before .before .before .before .args in
     let j = c .before .before .before .before .before .before .before .before .before .before .before .judge-take in
     let able = take-able (s .self) (s .b .0) (s .e .now) (s .d .now) (j .result) (j .ensures) (c .before .before .before .before .before .before .before .before .before .enum-told .given .1) in
@@ -51,28 +53,25 @@ module _ (s : Receiver) (b : ℕ) (e d y : List ℕ) (turn : b ≡ s .next .0) (
   in-turn : y ≡ kept (s .held) (s .next .0) e
   in-turn = ey ∙ ap (λ (n : ℕ). kept (s .held) n e) turn
 
-  said-in-turn : answered y b d ≡ answered (kept (s .held) (s .next .0) e) (s .next .0) d
-  said-in-turn = ap₂ (λ (x : List ℕ) (n : ℕ). answered x n d) in-turn turn
+  said-in-turn : burstAnswer y b d ≡ burstAnswer (kept (s .held) (s .next .0) e) (s .next .0) d
+  said-in-turn = ap₂ (λ (x : List ℕ) (n : ℕ). burstAnswer x n d) in-turn turn
 
-  next-in-turn : _≡_ {A = Receiver} (record { next = record { 0 = b + 1 }; held = y }) (takenNext s e)
+  next-in-turn : (m : ℕ) → m ≡ b + 1 → _≡_ {A = Receiver} (record { next = record { 0 = m }; held = y }) (takenNext s e)
   unfolding takenNext
-  next-in-turn = ap₂ (λ (n : ℕ) (x : List ℕ). record { next = record { 0 = n + 1 }; held = x }) turn in-turn
+  next-in-turn m em = ap₂ (λ (n : ℕ) (x : List ℕ). record { next = record { 0 = n }; held = x }) (em ∙ ap (λ (n : ℕ). n + 1) turn) in-turn
 
 returns-2 : tie.Need-returns-2
 unfolding takeTold takeAnswer
 returns-2 c =
-    let s = c .before .before .before .before .before .before .before .before .before .before .before .before .before .before .args in
-    let j = c .before .before .before .before .before .before .before .before .before .before .before .judge-take in
-    let done = c .before .before .before .before .before .before .before .before .before .enum-told .given .1 in
-    let able = take-able (s .self) (s .b .0) (s .e .now) (s .d .now) (j .result) (j .ensures) done in
-    let y = c .before .before .before .before .before .before .keep .last .1 .1 .0 in
-    let k = c .before .before .before .before .before .before .keep .ensures in
-    let a = c .before .before .answer .ensures in
-    let is = said-in-turn (s .self) (s .b .0) (s .e .now) (s .d .now) y (able .turn) k in
-    done-taking (takeTold (s .self) (s .b .0) (s .e .now) (s .d .now)) (s .self) (s .e .now) (s .d .now) (j .result) (j .ensures) _ _ _ done
-    (a .0 ∙ ap (λ (b : Brought). b .told) is)
-    (a .1 ∙ ap (λ (b : Brought). b .left) is)
-    (next-in-turn (s .self) (s .b .0) (s .e .now) (s .d .now) y (able .turn) k)
+    let s = c .before .before .before .before .before .before .before .before .before .before .before .before .before .before .before .args in
+    let j = c .before .before .before .before .before .before .before .before .before .before .before .before .judge-take in
+    let able = take-able (s .self) (s .b .0) (s .e .now) (s .d .now) (j .result) (j .ensures) (c .before .before .before .before .before .before .before .before .before .before .enum-told .given .1) in
+    let y = c .before .before .before .before .before .before .before .hold .last .1 .1 .0 in
+    let k = c .before .before .before .before .before .before .before .hold .ensures in
+    let said = c .before .before .before .answer in
+    done-taking (takeTold (s .self) (s .b .0) (s .e .now) (s .d .now)) (s .self) (s .e .now) (s .d .now) (j .result) (j .ensures) (said .result) (said .last .1 .1 .0) _ (c .before .before .before .before .before .before .before .before .before .before .enum-told .given .1)
+    (subst (λ (a : Answer Taken). Meets a (said .result) (said .last .1 .1 .0)) (said-in-turn (s .self) (s .b .0) (s .e .now) (s .d .now) y (able .turn) k) (said .ensures))
+    (next-in-turn (s .self) (s .b .0) (s .e .now) (s .d .now) y (able .turn) k (c .next-burst .result .0) (c .next-burst .ensures))
 
 pub take-spec : {M : Type 1} → statement M
 take-spec =
@@ -82,10 +81,10 @@ take-spec =
     (λ c. search needs)
     (λ c. search needs)
     (λ c. search needs)
-    keep-requires
+    hold-requires
     (λ c. search needs)
     answer-requires
-    add-t21
+    next-burst-requires
     returns
     (λ c. search needs)
     returns-2)
