@@ -1,5 +1,5 @@
 // The answer to one request of the access sheet.
-use coder::Told;
+use answers::Told;
 use text::digit;
 use text::put_bits;
 use text::put_refused;
@@ -59,6 +59,6 @@ fn put_access(out: &mut [u8], n: usize, identity: u8, characters: &[u8]) -> usiz
     let mut e = [0u8; 36];
     match coder::send_access(identity, &d, &mut e) {
         Told::Done => put_bits(out, n, &e),
-        Told::Refused(refusal) => put_refused(out, n, coder::number(refusal)),
+        Told::Refused(refusal) => put_refused(out, n, answers::number(refusal)),
     }
 }

@@ -6,16 +6,19 @@ use mathlib.Core.Path.{_≡_}
 use Prim.Native.Nat.{ℕ, zero, suc, _+_, _*_, _/_, _%_, _≤_, _<_}
 use lib.Dec.{ltb}
 use lib.ListN.{length, getD, take, drop}
-use Rattle.bits.specs.Bits.{Bits, pick, tab, total}
-use Rattle.burst.specs.Places.{eAt, placeAt, hl, hu, firstBurst}
+use Rattle.answers.specs.Answers.{Answer, Meets, returned, ofTold}
+use Rattle.bits.specs.Bits.{Bits, pick, tab, value}
+use Rattle.burst.specs.Numbers.{firstBurst}
+use Rattle.burst.specs.Places.{eAt, placeAt, hl, hu}
 use Rattle.trellis.specs.Nearest.{disagreements}
-use Rattle.stream.specs.Answers.{Answer, numberGiven, numberTaken, kindTaken, blockTaken, countTaken}
-use Rattle.stream.specs.Receiving.{Brought, vote, byKind, freshReceiver, takeAnswer}
+use Rattle.stream.specs.Answers.{brings, ofTaken}
+use Rattle.stream.specs.Receiving.{vote, byKind, freshReceiver, takeAnswer}
 use Rattle.stream.specs.Sending.{isFacch, isBlock, freshSender, sendAnswer, endAnswer}
 use Rattle.stream.specs.declared.Taken.{Taken}
 use Rattle.stream.specs.declared.Taken.the-variants.{Waiting}
 use Rattle.stream.specs.declared.receiver.Kind.{Kind}
 use Rattle.stream.specs.declared.receiver.Kind.the-variants as kind
+use Rattle.stream.specs.declared.receiver.Received.{Received}
 use Rattle.stream.specs.declared.receiver.Receiver.{Receiver}
 use Rattle.stream.specs.declared.sender.Sender.{Sender}
 
@@ -35,7 +38,7 @@ pub record Lesson (ds : List (List ℕ)) : Type 0 where
 -- the buffer of call i held before
 unfoldable pub sendAll : Sender → (ℕ → List ℕ) → List (List ℕ) → List ℕ
 sendAll s lent [] = endAnswer s (lent 0) .left
-sendAll s lent (d ∷ ds) = sendAnswer s d (lent 0) .left ++ sendAll (sendAnswer s d (lent 0) .next) (λ i. lent (suc i)) ds
+sendAll s lent (d ∷ ds) = sendAnswer s d (lent 0) .left ++ sendAll (sendAnswer s d (lent 0) .result .next) (λ i. lent (suc i)) ds
 
 unfoldable pub made : (ℕ → List ℕ) → List (List ℕ) → List ℕ
 made lent ds = sendAll freshSender lent ds
@@ -46,10 +49,10 @@ burstOf rx b = take 116 (drop (116 * b) rx)
 
 unfoldable pub after : List ℕ → (ℕ → List ℕ) → ℕ → Receiver
 after rx out zero = freshReceiver
-after rx out (suc b) = takeAnswer (after rx out b) b (burstOf rx b) (out b) .next
+after rx out (suc b) = takeAnswer (after rx out b) b (burstOf rx b) (out b) .result .next
 
-unfoldable pub saysAt : List ℕ → (ℕ → List ℕ) → ℕ → Answer Taken Receiver
-saysAt rx out b = takeAnswer (after rx out b) b (burstOf rx b) (out b)
+unfoldable pub takenAt : List ℕ → (ℕ → List ℕ) → ℕ → Answer Received
+takenAt rx out b = takeAnswer (after rx out b) b (burstOf rx b) (out b)
 
 -- some bursts as they arrive: M of them, all bits
 pub record Arrives (M : ℕ) (rx : List ℕ) (out : ℕ → List ℕ) : Type 0 where
@@ -58,22 +61,22 @@ pub record Arrives (M : ℕ) (rx : List ℕ) (out : ℕ → List ℕ) : Type 0 w
   pub lent : (b : ℕ) → length (out b) ≡ 260
 
 -- ---- what stands at the places of block n. 01: bit k in burst 4n + (k mod 8); the flags are hu of its first four bursts, hl of its last four
-unfoldable pub ownBits : List ℕ → ℕ → List ℕ
-ownBits rx n = tab 456 (λ k. getD rx (116 * (firstBurst n + k % 8) + eAt k) 0)
+unfoldable pub blockBits : List ℕ → ℕ → List ℕ
+blockBits rx n = tab 456 (λ k. getD rx (116 * (firstBurst n + k % 8) + eAt k) 0)
 
-unfoldable pub ownFlags : List ℕ → ℕ → List ℕ
-ownFlags rx n = tab 8 (λ i. getD rx (116 * (firstBurst n + i) + pick (ltb i 4) hu hl) 0)
+unfoldable pub blockFlags : List ℕ → ℕ → List ℕ
+blockFlags rx n = tab 8 (λ i. getD rx (116 * (firstBurst n + i) + pick (ltb i 4) hu hl) 0)
 
 -- the protected bits of block d: of speech the first 378, of FACCH all
 unfoldable pub protected : List ℕ → List ℕ → List ℕ
 protected d c = pick (isFacch (length d)) c (take 378 c)
 
 -- how many of block n's own protected bits, and of its own flags, are not as sent
-unfoldable pub altered : List ℕ → List ℕ → List ℕ → ℕ → ℕ
-altered d sent rx n = disagreements (protected d (ownBits rx n)) (protected d (ownBits sent n))
+unfoldable pub bitsAltered : List ℕ → List ℕ → List ℕ → ℕ → ℕ
+bitsAltered d sent rx n = disagreements (protected d (blockBits rx n)) (protected d (blockBits sent n))
 
 unfoldable pub flagsAltered : List ℕ → List ℕ → ℕ → ℕ
-flagsAltered sent rx n = disagreements (ownFlags rx n) (ownFlags sent n)
+flagsAltered sent rx n = disagreements (blockFlags rx n) (blockFlags sent n)
 
 -- the kind that was sent; and the bits handed over: the protected ones as sent, the others as received. FACCH leaves the last 76 bytes
 unfoldable pub kindOf : List ℕ → Kind
@@ -83,28 +86,25 @@ unfoldable pub bitsOut : List ℕ → List ℕ → List ℕ → List ℕ
 bitsOut d c out = pick (isFacch (length d)) (d ++ drop 184 out) (take 182 d ++ drop 378 c)
 
 -- a block comes back: no number is given, but the block's kind, its n and its count, and the buffer then holds these bytes
-pub record Brings (a : Answer Taken Receiver) (k : Kind) (n altered : ℕ) (bytes : List ℕ) : Type 0 where
-  pub number : numberTaken (a .told) ≡ none
-  pub kind : kindTaken (a .told) ≡ some k
-  pub block : blockTaken (a .told) ≡ some n
-  pub count : countTaken (a .told) ≡ some altered
+pub record ComesBack (a : Answer Received) (k : Kind) (n count : ℕ) (bytes : List ℕ) : Type 0 where
+  pub told : ofTaken (a .result .told) ≡ brings none (some k) (some n) (some count)
   pub left : a .left ≡ bytes
 
 -- ---- THE PROMISE: any lesson is sent and ended, and any bits arrive, as many as were sent. Whatever happened to other blocks: if at most
--- three of block n's own protected bits and at most three of its own flags are altered, burst 4n+7 brings it.
+-- three of block n's own protected bits and at most three of its own flags are bitsAltered, burst 4n+7 brings it.
 abbrev pub StreamPromise : Type 0
 StreamPromise =
     (ds : List (List ℕ)) → Lesson ds → (lent : ℕ → List ℕ) → ((i : ℕ) → length (lent i) ≡ 464)
     → (rx : List ℕ) (out : ℕ → List ℕ) → Arrives (4 * length ds + 4) rx out
     → (n : ℕ) → n < length ds
-    → altered (getD ds n []) (made lent ds) rx n ≤ 3 → flagsAltered (made lent ds) rx n ≤ 3
-    → Brings (saysAt rx out (4 * n + 7)) (kindOf (getD ds n [])) n (altered (getD ds n []) (made lent ds) rx n)
-    (bitsOut (getD ds n []) (ownBits rx n) (out (4 * n + 7)))
+    → bitsAltered (getD ds n []) (made lent ds) rx n ≤ 3 → flagsAltered (made lent ds) rx n ≤ 3
+    → ComesBack (takenAt rx out (4 * n + 7)) (kindOf (getD ds n [])) n (bitsAltered (getD ds n []) (made lent ds) rx n)
+    (bitsOut (getD ds n []) (blockBits rx n) (out (4 * n + 7)))
 
 -- every send and the end give no number, and N blocks make 4N+4 bursts
 unfoldable pub AllDone : Sender → (ℕ → List ℕ) → List (List ℕ) → Type 0
-AllDone s lent [] = numberGiven (endAnswer s (lent 0) .told) ≡ none
-AllDone s lent (d ∷ ds) = (numberGiven (sendAnswer s d (lent 0) .told) ≡ none) × AllDone (sendAnswer s d (lent 0) .next) (λ i. lent (suc i)) ds
+AllDone s lent [] = ofTold (endAnswer s (lent 0) .result .told) ≡ returned none none
+AllDone s lent (d ∷ ds) = (ofTold (sendAnswer s d (lent 0) .result .told) ≡ returned none none) × AllDone (sendAnswer s d (lent 0) .result .next) (λ i. lent (suc i)) ds
 
 abbrev pub BurstsMade : Type 0
 BurstsMade =
@@ -122,18 +122,18 @@ IdleHalves =
 
 -- ---- LOCALITY: whatever arrives, burst 4n+7 brings what stands at block n's places, and nothing else counts; every other burst brings
 -- "waiting"
-unfoldable pub heardAt : List ℕ → ℕ → List ℕ → Brought
-heardAt rx n out = byKind (vote (total 8 (λ i. getD (ownFlags rx n) i 0))) n (ownBits rx n) out
+unfoldable pub answerFor : List ℕ → ℕ → List ℕ → Answer Taken
+answerFor rx n out = byKind (vote (value (blockFlags rx n))) n (blockBits rx n) out
 
--- what is said at a burst, and what the buffer then holds
-abbrev pub Says : Answer Taken Receiver → Brought → Type 0
-Says a b = (a .told ≡ b .told) × (a .left ≡ b .left)
+-- what is told at burst b, and what the buffer then holds, is the answer a
+abbrev pub Answers : List ℕ → (ℕ → List ℕ) → ℕ → Answer Taken → Type 0
+Answers rx out b a = Meets a (takenAt rx out b .result .told) (takenAt rx out b .left)
 
 abbrev pub Locality : Type 0
 Locality =
     (M : ℕ) → M ≤ 65536 → (rx : List ℕ) (out : ℕ → List ℕ) → Arrives M rx out
-    → ((n : ℕ) → 4 * n + 7 < M → Says (saysAt rx out (4 * n + 7)) (heardAt rx n (out (4 * n + 7))))
-    × ((b : ℕ) → b < M → ((n : ℕ) → b ≡ 4 * n + 7 → ⊥) → Says (saysAt rx out b) (record { told = Waiting; left = out b }))
+    → ((n : ℕ) → 4 * n + 7 < M → Answers rx out (4 * n + 7) (answerFor rx n (out (4 * n + 7))))
+    × ((b : ℕ) → b < M → ((n : ℕ) → b ≡ 4 * n + 7 → ⊥) → Answers rx out b (record { result = Waiting; left = out b }))
 
 -- a bad burst B costs the two blocks B/4 and B/4 - 1, and never a third: where two receptions differ in burst B alone, every other block's
 -- answer is the same
@@ -142,4 +142,4 @@ NeverAThird =
     (M : ℕ) → M ≤ 65536 → (rx rx' : List ℕ) (out : ℕ → List ℕ) → Arrives M rx out → Arrives M rx' out
     → (B : ℕ) → ((i : ℕ) → (i / 116 ≡ B → ⊥) → getD rx i 0 ≡ getD rx' i 0)
     → (n : ℕ) → 4 * n + 7 < M → (n ≡ B / 4 → ⊥) → (n + 1 ≡ B / 4 → ⊥)
-    → (saysAt rx out (4 * n + 7) .told ≡ saysAt rx' out (4 * n + 7) .told) × (saysAt rx out (4 * n + 7) .left ≡ saysAt rx' out (4 * n + 7) .left)
+    → (takenAt rx out (4 * n + 7) .result .told ≡ takenAt rx' out (4 * n + 7) .result .told) × (takenAt rx out (4 * n + 7) .left ≡ takenAt rx' out (4 * n + 7) .left)

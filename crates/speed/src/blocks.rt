@@ -1,7 +1,8 @@
 // The entries of coder and desk, each called so many times in a row. A bit that is read changes from call to call, so that none repeats
 // another, and what the last one wrote is looked at, so that none can be left out.
-use coder::Heard;
-use coder::Told;
+use answers::Heard;
+use answers::Refusal;
+use answers::Told;
 ghost use Prim.Native.Nat.{_≤_, _<_};
 ghost use lib.ListN.{length};
 
@@ -24,15 +25,15 @@ fn turn(d: &mut [u8], i: usize)
 fn of_told(told: Told) -> u32 {
     match told {
         Told::Done => 0,
-        Told::Refused(why) => coder::number(why) as u32,
+        Told::Refused(why) => answers::number(why) as u32,
     }
 }
 
 fn of_heard(heard: Heard) -> u32 {
     match heard {
         Heard::Good(count) => count as u32,
-        Heard::Refused(why) => 65536 * coder::number(why) as u32,
-        Heard::Bad(count) => 65536 * 8 + count as u32,
+        Heard::Refused(why) => 65536 * answers::number(why) as u32,
+        Heard::Bad(count) => 65536 * answers::number(Refusal::Parity) as u32 + count as u32,
     }
 }
 

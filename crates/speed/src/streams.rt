@@ -1,9 +1,10 @@
 // The streams: a sender that sends a block so many times, and a receiver that takes the bursts of a block.
 use crate::blocks::fill;
 use crate::blocks::seen;
+use answers::Refusal;
+use answers::Told;
 use burst::BurstNumber;
 use stream::Taken;
-use stream::Told;
 use stream::receiver::Receiver;
 use stream::sender::Sender;
 ghost use mathlib.Core.Path.{_≡_};
@@ -12,7 +13,7 @@ ghost use lib.ListN.{length};
 fn of_told(told: Told) -> u32 {
     match told {
         Told::Done => 0,
-        Told::Refused(why) => stream::number(why) as u32,
+        Told::Refused(why) => answers::number(why) as u32,
     }
 }
 
@@ -22,9 +23,9 @@ fn of_taken(told: Taken) -> u32 {
         Taken::Waiting => 0,
         Taken::Speech(n, count) => 1000 + count as u32,
         Taken::Facch(n, count) => 2000 + count as u32,
-        Taken::Refused(why) => 65536 * stream::number(why) as u32,
-        Taken::Bad(n, count) => 65536 * 8 + count as u32,
-        Taken::Tie(n) => 65536 * 9,
+        Taken::Refused(why) => 65536 * answers::number(why) as u32,
+        Taken::Bad(n, count) => 65536 * answers::number(Refusal::Parity) as u32 + count as u32,
+        Taken::Tie(n) => 65536 * answers::number(Refusal::Flags) as u32,
     }
 }
 

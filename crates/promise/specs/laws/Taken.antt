@@ -2,28 +2,33 @@
 use mathlib.Core.List.{List}
 use mathlib.Core.Logic.{⊎-elim}
 use mathlib.Core.Path.{_≡_, refl, sym, ap, ap₂, _∙_, subst}
-use Prim.Native.Nat.{ℕ, zero, suc, _+_, _-_, _*_, _/_, _%_, _≤_, _<_}
+use Prim.Native.Nat.{ℕ, zero, suc, _+_, _*_, _%_, _≤_, _<_}
 use native.Mathlib.Omega.{arith}
 use lib.Dec.{ltb, lit<}
 use lib.ListN.{length, getD, drop}
 use lib.Seq.{getD-take, getD-drop}
 use borrow.Author.Tests.{lt-ltb, le-ltb}
-use Rattle.bits.specs.Bits.{Bits, pick, total}
+use Rattle.answers.specs.Answers.{Answer, Meets}
+use Rattle.bits.specs.Bits.{Bits, pick, value}
 use Rattle.bits.specs.laws.Cases.{lt-or-le}
 use Rattle.bits.specs.laws.Parts.{length-lent}
 use Rattle.bits.specs.laws.Sum.{bits-take, length-zeros}
-use Rattle.bits.specs.laws.Tab.{at-tab, tab-same}
-use Rattle.bits.specs.laws.Total.{total-same}
-use Rattle.burst.specs.Places.{eAt, hl, hu, firstBurst, heldBit, kept, ownAt, own, flagAt, flagCount}
-use Rattle.burst.specs.laws.Held.{kept-long, kept-same, kept-other}
+use Rattle.bits.specs.laws.Tab.{tab-same}
+use Rattle.burst.specs.Held.{heldBlockAt, heldBlock, heldFlagAt, heldFlags}
+use Rattle.burst.specs.Numbers.{firstBurst}
+use Rattle.burst.specs.Places.{eAt, hl, hu}
+use Rattle.burst.specs.Ring.{heldBit, kept}
+use Rattle.burst.specs.laws.Numbers.{ended-block, ended-none}
 use Rattle.burst.specs.laws.Places.{every-bit}
-use Rattle.stream.specs.Answers.{Answer}
-use Rattle.stream.specs.Receiving.{Brought, vote, byKind, brought, answered, freshReceiver, takenNext, takeAnswer}
+use Rattle.burst.specs.laws.Ring.{kept-long, kept-same, kept-other}
+use Rattle.burst.specs.declared.numbers.Ending.{Ending}
+use Rattle.stream.specs.Receiving.{vote, byKind, blockAnswer, atEnding, burstAnswer, freshReceiver, takenNext, takeAnswer}
 use Rattle.stream.specs.declared.Taken.{Taken}
 use Rattle.stream.specs.declared.Taken.the-variants.{Waiting}
+use Rattle.stream.specs.declared.receiver.Received.{Received}
 use Rattle.stream.specs.declared.receiver.Receiver.{Receiver}
-use Rattle.stream.specs.laws.Receiving.{takes-on, too-early, not-last, is-last}
-use Rattle.promise.specs.Promise.{Arrives, burstOf, after, saysAt, ownBits, ownFlags, Says, heardAt}
+use Rattle.stream.specs.laws.Receiving.{takes-on}
+use Rattle.promise.specs.Promise.{Arrives, burstOf, after, takenAt, blockBits, blockFlags, Answers, answerFor}
 
 bits-drop : (n : ℕ) (w : List ℕ) → Bits w → Bits (drop n w)
 bits-drop n w bw k = subst (λ (x : ℕ). x ≤ 1) (sym (getD-drop n w k 0)) (bw (n + k))
@@ -52,7 +57,10 @@ module _ (M : ℕ) (few : M ≤ 65536) (rx : List ℕ) (out : ℕ → List ℕ) 
 
   module _ (s : Receiver) (b : ℕ) (h : b < M) (l : Along s b) where
     taken : takeAnswer s b (burstOf rx b) (out b)
-        ≡ record { told = answered (kept (s .held) b (burstOf rx b)) b (out b) .told; left = answered (kept (s .held) b (burstOf rx b)) b (out b) .left; next = takenNext s (burstOf rx b) }
+        ≡ record {
+          result = record { told = burstAnswer (kept (s .held) b (burstOf rx b)) b (out b) .result; next = takenNext s (burstOf rx b) };
+          left = burstAnswer (kept (s .held) b (burstOf rx b)) b (out b) .left;
+        }
     taken = takes-on s b (burstOf rx b) (out b) (l .next) (omega (arith, few)) (burst-long b h) (burst-bits b) (here .lent b)
 
     -- the newest burst, and the seven before it
@@ -74,7 +82,7 @@ module _ (M : ℕ) (few : M ≤ 65536) (rx : List ℕ) (out : ℕ → List ℕ) 
             ∙ omega (arith, one)
             ∙ ap (λ (k : ℕ). getD rx (116 * k + x) 0) (sym same)
 
-    on : Along (takeAnswer s b (burstOf rx b) (out b) .next) (suc b)
+    on : Along (takeAnswer s b (burstOf rx b) (out b) .result .next) (suc b)
     unfolding takenNext
     on = rw taken (record {
       next = omega (arith, l .next);
@@ -87,42 +95,44 @@ module _ (M : ℕ) (few : M ≤ 65536) (rx : List ℕ) (out : ℕ → List ℕ) 
   along zero h = record { next = refl; long = length-zeros 928; holds = λ a x p q r. let z : ⊥ = omega (arith, p) in absurd z }
   along (suc b) h = on (after rx out b) b h (along b (omega (arith, h)))
 
+  -- ---- what is said at burst b is what the held bursts say
+  held-at : ℕ → List ℕ
+  held-at b = kept (after rx out b .held) b (burstOf rx b)
+
+  said : (b : ℕ) → b < M → (a : Answer Taken) → burstAnswer (held-at b) b (out b) ≡ a → Answers rx out b a
+  unfolding takenAt held-at
+  said b h a e =
+      let t = taken (after rx out b) b h (along b (omega (arith, h))) in
+      record {
+        result = ap (λ (x : Answer Received). x .result .told) t ∙ ap (λ (x : Answer Taken). x .result) e;
+        left = ap (λ (x : Answer Received). x .left) t ∙ ap (λ (x : Answer Taken). x .left) e;
+      }
+
   -- ---- the eight bursts of block n, when the last of them is taken
   module _ (n : ℕ) (h : 4 * n + 7 < M) where
-    held : List ℕ
-    held = kept (after rx out (4 * n + 7) .held) (4 * n + 7) (burstOf rx (4 * n + 7))
+    abbrev held : List ℕ
+    held = held-at (4 * n + 7)
 
-    own-is : own held n ≡ ownBits rx n
-    unfolding own ownAt ownBits held firstBurst
-    own-is = tab-same 456 (ownAt held n) (λ k. getD rx (116 * (firstBurst n + k % 8) + eAt k) 0)
-        (λ k l. now-holds (after rx out (4 * n + 7)) (4 * n + 7) h (along (4 * n + 7) (omega (arith, h))) (4 * n + k % 8) (eAt k) (omega arith) (omega arith) (every-bit k l .within))
+    stands : (r x : ℕ) → r < 8 → x < 116 → heldBit held (4 * n + r) x ≡ getD rx (116 * (4 * n + r) + x) 0
+    unfolding held-at
+    stands r x hr hx = now-holds (after rx out (4 * n + 7)) (4 * n + 7) h (along (4 * n + 7) (omega (arith, h))) (4 * n + r) x (omega (arith, hr)) (omega arith) hx
 
-    flags-are : flagCount held n ≡ total 8 (λ i. getD (ownFlags rx n) i 0)
-    unfolding flagCount flagAt ownFlags held firstBurst
-    flags-are = total-same 8 (flagAt held n) (λ i. getD (ownFlags rx n) i 0)
-        (λ i l. now-holds (after rx out (4 * n + 7)) (4 * n + 7) h (along (4 * n + 7) (omega (arith, h))) (4 * n + i) (pick (ltb i 4) hu hl) (omega (arith, l)) (omega arith) (flag-in i)
-        ∙ sym (at-tab 8 (λ i. getD rx (116 * (4 * n + i) + pick (ltb i 4) hu hl) 0) i l))
+    bits-are : heldBlock held n ≡ blockBits rx n
+    unfolding heldBlock heldBlockAt blockBits firstBurst
+    bits-are = tab-same 456 (heldBlockAt held n) (λ k. getD rx (116 * (4 * n + k % 8) + eAt k) 0) (λ k l. stands (k % 8) (eAt k) (omega arith) (every-bit k l .within))
 
-    pub brings-own : Says (saysAt rx out (4 * n + 7)) (heardAt rx n (out (4 * n + 7)))
-    unfolding saysAt heardAt brought held
-    brings-own =
-        let b : ℕ = 4 * n + 7 in
-        let d : List ℕ = out b in
-        let said = taken (after rx out b) b h (along b (omega (arith, h))) in
-        let last = is-last held d b (omega arith) (omega arith) in
-        let block : b / 4 - 1 ≡ n = omega arith in
-        let is : answered held b d ≡ byKind (vote (total 8 (λ i. getD (ownFlags rx n) i 0))) n (ownBits rx n) d =
-        sym last ∙ ap (λ (k : ℕ). brought held k d) block ∙ ap₂ (λ (f : ℕ) (c : List ℕ). byKind (vote f) n c d) flags-are own-is in
-        (ap (λ (a : Answer Taken Receiver). a .told) said ∙ ap (λ (x : Brought). x .told) is, ap (λ (a : Answer Taken Receiver). a .left) said ∙ ap (λ (x : Brought). x .left) is)
+    flags-are : heldFlags held n ≡ value (blockFlags rx n)
+    unfolding heldFlags heldFlagAt blockFlags firstBurst
+    flags-are = ap value (tab-same 8 (heldFlagAt held n) (λ i. getD rx (116 * (4 * n + i) + pick (ltb i 4) hu hl) 0) (λ i l. stands i (pick (ltb i 4) hu hl) l (flag-in i)))
+
+    pub brings-block : Answers rx out (4 * n + 7) (answerFor rx n (out (4 * n + 7)))
+    unfolding answerFor burstAnswer atEnding blockAnswer
+    brings-block =
+        let d : List ℕ = out (4 * n + 7) in
+        said (4 * n + 7) h (answerFor rx n d)
+        (ap (λ (x : Ending). atEnding x held d) (ended-block n) ∙ ap₂ (λ (f : ℕ) (c : List ℕ). byKind (vote f) n c d) flags-are bits-are)
 
   -- ---- and every other burst
-  module _ (b : ℕ) (h : b < M) (other : (n : ℕ) → b ≡ 4 * n + 7 → ⊥) where
-    waits : (held d : List ℕ) → record { told = Waiting; left = d } ≡ answered held b d
-    waits held d = ⊎-elim (λ (l : b < 7). too-early held d b l) (λ (l : 7 ≤ b). not-last held d b l (λ (z : b % 4 ≡ 3). other (b / 4 - 1) (omega (arith, l, z)))) (lt-or-le b 7)
-
-    pub brings-nothing : Says (saysAt rx out b) (record { told = Waiting; left = out b })
-    unfolding saysAt
-    brings-nothing =
-        let said = taken (after rx out b) b h (along b (omega (arith, h))) in
-        let is = sym (waits (kept (after rx out b .held) b (burstOf rx b)) (out b)) in
-        (ap (λ (a : Answer Taken Receiver). a .told) said ∙ ap (λ (x : Brought). x .told) is, ap (λ (a : Answer Taken Receiver). a .left) said ∙ ap (λ (x : Brought). x .left) is)
+  pub brings-nothing : (b : ℕ) → b < M → ((n : ℕ) → b ≡ 4 * n + 7 → ⊥) → Answers rx out b (record { result = Waiting; left = out b })
+  unfolding burstAnswer atEnding
+  brings-nothing b h other = said b h (record { result = Waiting; left = out b }) (ap (λ (x : Ending). atEnding x (held-at b) (out b)) (ended-none b other))
