@@ -1,4 +1,4 @@
--- The table of places by one computed test over its 456 entries, and the rule at each.
+-- The two tables of places, by one computed test over the entries of each; and that what is filled and gathered by them is as defined.
 use mathlib.Core.Bool.{Bool, true, false}
 use mathlib.Core.List.{List, [], _∷_, _++_}
 use mathlib.Core.Logic.{⊎-elim}
@@ -9,65 +9,101 @@ use lib.Dec.{T, eqb, eqb→eq, lit<}
 use lib.ListN.{length, getD, set, length-set}
 use lib.Seq.{getD-set-same, getD-set-other}
 use borrow.Author.Tests.{eqb-true, eqb-false, eq-eqb, ne-eqb}
-use Rattle.bits.specs.Bits.{pick, both, tab}
+use Rattle.bits.specs.Bits.{pick, both, allBelow, tab}
 use Rattle.bits.specs.laws.Cases.{lt-or-le}
 use Rattle.bits.specs.laws.Parts.{put, put-four}
 use Rattle.bits.specs.laws.Tab.{below, both-left, both-right, is-tab, at-tab, length-tab, tab-same, at-left, at-right}
 use Rattle.burst.specs.Places.{placeOf, eOf, eAt, placeAt, bitAt, flagIn, cell, burst, four, gatheredAt}
 use Rattle.burst.specs.laws.Places.{every-bit}
 
-unfoldable pub places : List ℕ
+-- bit 8 row + x at x of a row
+unfoldable pub places : List (List ℕ)
 places =
-    0 ∷ 216 ∷ 316 ∷ 416 ∷ 515 ∷ 615 ∷ 715 ∷ 815 ∷ 102 ∷ 202 ∷ 302 ∷ 400 ∷ 501 ∷ 601 ∷ 701 ∷ 917 ∷
-    88 ∷ 188 ∷ 286 ∷ 386 ∷ 487 ∷ 587 ∷ 803 ∷ 903 ∷ 74 ∷ 172 ∷ 272 ∷ 372 ∷ 473 ∷ 689 ∷ 789 ∷ 889 ∷
-    60 ∷ 158 ∷ 258 ∷ 358 ∷ 575 ∷ 675 ∷ 775 ∷ 875 ∷ 44 ∷ 144 ∷ 244 ∷ 460 ∷ 561 ∷ 661 ∷ 761 ∷ 859 ∷
-    30 ∷ 130 ∷ 346 ∷ 446 ∷ 547 ∷ 647 ∷ 745 ∷ 845 ∷ 16 ∷ 116 ∷ 332 ∷ 432 ∷ 533 ∷ 631 ∷ 731 ∷ 831 ∷
-    2 ∷ 218 ∷ 318 ∷ 418 ∷ 517 ∷ 617 ∷ 717 ∷ 817 ∷ 104 ∷ 204 ∷ 304 ∷ 402 ∷ 503 ∷ 603 ∷ 703 ∷ 919 ∷
-    90 ∷ 190 ∷ 288 ∷ 388 ∷ 489 ∷ 589 ∷ 805 ∷ 905 ∷ 76 ∷ 176 ∷ 274 ∷ 374 ∷ 475 ∷ 691 ∷ 791 ∷ 891 ∷
-    62 ∷ 160 ∷ 260 ∷ 360 ∷ 577 ∷ 677 ∷ 777 ∷ 877 ∷ 46 ∷ 146 ∷ 246 ∷ 462 ∷ 563 ∷ 663 ∷ 763 ∷ 861 ∷
-    32 ∷ 132 ∷ 232 ∷ 448 ∷ 549 ∷ 649 ∷ 747 ∷ 847 ∷ 18 ∷ 118 ∷ 334 ∷ 434 ∷ 535 ∷ 633 ∷ 733 ∷ 833 ∷
-    4 ∷ 220 ∷ 320 ∷ 420 ∷ 519 ∷ 619 ∷ 719 ∷ 819 ∷ 106 ∷ 206 ∷ 306 ∷ 404 ∷ 505 ∷ 605 ∷ 705 ∷ 921 ∷
-    92 ∷ 192 ∷ 292 ∷ 390 ∷ 491 ∷ 591 ∷ 807 ∷ 907 ∷ 78 ∷ 178 ∷ 276 ∷ 376 ∷ 477 ∷ 693 ∷ 793 ∷ 893 ∷
-    64 ∷ 162 ∷ 262 ∷ 362 ∷ 579 ∷ 679 ∷ 779 ∷ 879 ∷ 48 ∷ 148 ∷ 248 ∷ 348 ∷ 565 ∷ 665 ∷ 765 ∷ 863 ∷
-    34 ∷ 134 ∷ 234 ∷ 450 ∷ 551 ∷ 651 ∷ 749 ∷ 849 ∷ 20 ∷ 120 ∷ 336 ∷ 436 ∷ 537 ∷ 635 ∷ 735 ∷ 835 ∷
-    6 ∷ 222 ∷ 322 ∷ 422 ∷ 523 ∷ 621 ∷ 721 ∷ 821 ∷ 108 ∷ 208 ∷ 308 ∷ 408 ∷ 507 ∷ 607 ∷ 707 ∷ 923 ∷
-    94 ∷ 194 ∷ 294 ∷ 392 ∷ 493 ∷ 593 ∷ 809 ∷ 909 ∷ 80 ∷ 180 ∷ 278 ∷ 378 ∷ 479 ∷ 695 ∷ 795 ∷ 895 ∷
-    66 ∷ 164 ∷ 264 ∷ 364 ∷ 465 ∷ 681 ∷ 781 ∷ 881 ∷ 50 ∷ 150 ∷ 250 ∷ 350 ∷ 567 ∷ 667 ∷ 767 ∷ 865 ∷
-    36 ∷ 136 ∷ 236 ∷ 452 ∷ 553 ∷ 653 ∷ 751 ∷ 851 ∷ 22 ∷ 122 ∷ 338 ∷ 438 ∷ 539 ∷ 639 ∷ 737 ∷ 837 ∷
-    8 ∷ 224 ∷ 324 ∷ 424 ∷ 525 ∷ 623 ∷ 723 ∷ 823 ∷ 110 ∷ 210 ∷ 310 ∷ 410 ∷ 509 ∷ 609 ∷ 709 ∷ 925 ∷
-    96 ∷ 196 ∷ 296 ∷ 394 ∷ 495 ∷ 595 ∷ 811 ∷ 911 ∷ 82 ∷ 182 ∷ 280 ∷ 380 ∷ 481 ∷ 581 ∷ 797 ∷ 897 ∷
-    68 ∷ 166 ∷ 266 ∷ 366 ∷ 467 ∷ 683 ∷ 783 ∷ 883 ∷ 52 ∷ 152 ∷ 252 ∷ 352 ∷ 569 ∷ 669 ∷ 769 ∷ 867 ∷
-    38 ∷ 138 ∷ 238 ∷ 454 ∷ 555 ∷ 655 ∷ 755 ∷ 853 ∷ 24 ∷ 124 ∷ 340 ∷ 440 ∷ 541 ∷ 641 ∷ 739 ∷ 839 ∷
-    10 ∷ 226 ∷ 326 ∷ 426 ∷ 527 ∷ 625 ∷ 725 ∷ 825 ∷ 112 ∷ 212 ∷ 312 ∷ 412 ∷ 511 ∷ 611 ∷ 711 ∷ 927 ∷
-    98 ∷ 198 ∷ 298 ∷ 396 ∷ 497 ∷ 597 ∷ 697 ∷ 913 ∷ 84 ∷ 184 ∷ 282 ∷ 382 ∷ 483 ∷ 583 ∷ 799 ∷ 899 ∷
-    70 ∷ 168 ∷ 268 ∷ 368 ∷ 469 ∷ 685 ∷ 785 ∷ 885 ∷ 54 ∷ 154 ∷ 254 ∷ 354 ∷ 571 ∷ 671 ∷ 771 ∷ 871 ∷
-    40 ∷ 140 ∷ 240 ∷ 456 ∷ 557 ∷ 657 ∷ 757 ∷ 855 ∷ 26 ∷ 126 ∷ 342 ∷ 442 ∷ 543 ∷ 643 ∷ 741 ∷ 841 ∷
-    12 ∷ 228 ∷ 328 ∷ 428 ∷ 529 ∷ 627 ∷ 727 ∷ 827 ∷ 114 ∷ 214 ∷ 314 ∷ 414 ∷ 513 ∷ 613 ∷ 713 ∷ 813 ∷
-    100 ∷ 200 ∷ 300 ∷ 398 ∷ 499 ∷ 599 ∷ 699 ∷ 915 ∷ 86 ∷ 186 ∷ 284 ∷ 384 ∷ 485 ∷ 585 ∷ 801 ∷ 901 ∷
-    72 ∷ 170 ∷ 270 ∷ 370 ∷ 471 ∷ 687 ∷ 787 ∷ 887 ∷ 56 ∷ 156 ∷ 256 ∷ 356 ∷ 573 ∷ 673 ∷ 773 ∷ 873 ∷
-    42 ∷ 142 ∷ 242 ∷ 458 ∷ 559 ∷ 659 ∷ 759 ∷ 857 ∷ 28 ∷ 128 ∷ 344 ∷ 444 ∷ 545 ∷ 645 ∷ 743 ∷ 843 ∷
-    14 ∷ 230 ∷ 330 ∷ 430 ∷ 531 ∷ 629 ∷ 729 ∷ 829 ∷ []
+    (0 ∷ 216 ∷ 316 ∷ 416 ∷ 515 ∷ 615 ∷ 715 ∷ 815 ∷ []) ∷
+    (102 ∷ 202 ∷ 302 ∷ 400 ∷ 501 ∷ 601 ∷ 701 ∷ 917 ∷ []) ∷
+    (88 ∷ 188 ∷ 286 ∷ 386 ∷ 487 ∷ 587 ∷ 803 ∷ 903 ∷ []) ∷
+    (74 ∷ 172 ∷ 272 ∷ 372 ∷ 473 ∷ 689 ∷ 789 ∷ 889 ∷ []) ∷
+    (60 ∷ 158 ∷ 258 ∷ 358 ∷ 575 ∷ 675 ∷ 775 ∷ 875 ∷ []) ∷
+    (44 ∷ 144 ∷ 244 ∷ 460 ∷ 561 ∷ 661 ∷ 761 ∷ 859 ∷ []) ∷
+    (30 ∷ 130 ∷ 346 ∷ 446 ∷ 547 ∷ 647 ∷ 745 ∷ 845 ∷ []) ∷
+    (16 ∷ 116 ∷ 332 ∷ 432 ∷ 533 ∷ 631 ∷ 731 ∷ 831 ∷ []) ∷
+    (2 ∷ 218 ∷ 318 ∷ 418 ∷ 517 ∷ 617 ∷ 717 ∷ 817 ∷ []) ∷
+    (104 ∷ 204 ∷ 304 ∷ 402 ∷ 503 ∷ 603 ∷ 703 ∷ 919 ∷ []) ∷
+    (90 ∷ 190 ∷ 288 ∷ 388 ∷ 489 ∷ 589 ∷ 805 ∷ 905 ∷ []) ∷
+    (76 ∷ 176 ∷ 274 ∷ 374 ∷ 475 ∷ 691 ∷ 791 ∷ 891 ∷ []) ∷
+    (62 ∷ 160 ∷ 260 ∷ 360 ∷ 577 ∷ 677 ∷ 777 ∷ 877 ∷ []) ∷
+    (46 ∷ 146 ∷ 246 ∷ 462 ∷ 563 ∷ 663 ∷ 763 ∷ 861 ∷ []) ∷
+    (32 ∷ 132 ∷ 232 ∷ 448 ∷ 549 ∷ 649 ∷ 747 ∷ 847 ∷ []) ∷
+    (18 ∷ 118 ∷ 334 ∷ 434 ∷ 535 ∷ 633 ∷ 733 ∷ 833 ∷ []) ∷
+    (4 ∷ 220 ∷ 320 ∷ 420 ∷ 519 ∷ 619 ∷ 719 ∷ 819 ∷ []) ∷
+    (106 ∷ 206 ∷ 306 ∷ 404 ∷ 505 ∷ 605 ∷ 705 ∷ 921 ∷ []) ∷
+    (92 ∷ 192 ∷ 292 ∷ 390 ∷ 491 ∷ 591 ∷ 807 ∷ 907 ∷ []) ∷
+    (78 ∷ 178 ∷ 276 ∷ 376 ∷ 477 ∷ 693 ∷ 793 ∷ 893 ∷ []) ∷
+    (64 ∷ 162 ∷ 262 ∷ 362 ∷ 579 ∷ 679 ∷ 779 ∷ 879 ∷ []) ∷
+    (48 ∷ 148 ∷ 248 ∷ 348 ∷ 565 ∷ 665 ∷ 765 ∷ 863 ∷ []) ∷
+    (34 ∷ 134 ∷ 234 ∷ 450 ∷ 551 ∷ 651 ∷ 749 ∷ 849 ∷ []) ∷
+    (20 ∷ 120 ∷ 336 ∷ 436 ∷ 537 ∷ 635 ∷ 735 ∷ 835 ∷ []) ∷
+    (6 ∷ 222 ∷ 322 ∷ 422 ∷ 523 ∷ 621 ∷ 721 ∷ 821 ∷ []) ∷
+    (108 ∷ 208 ∷ 308 ∷ 408 ∷ 507 ∷ 607 ∷ 707 ∷ 923 ∷ []) ∷
+    (94 ∷ 194 ∷ 294 ∷ 392 ∷ 493 ∷ 593 ∷ 809 ∷ 909 ∷ []) ∷
+    (80 ∷ 180 ∷ 278 ∷ 378 ∷ 479 ∷ 695 ∷ 795 ∷ 895 ∷ []) ∷
+    (66 ∷ 164 ∷ 264 ∷ 364 ∷ 465 ∷ 681 ∷ 781 ∷ 881 ∷ []) ∷
+    (50 ∷ 150 ∷ 250 ∷ 350 ∷ 567 ∷ 667 ∷ 767 ∷ 865 ∷ []) ∷
+    (36 ∷ 136 ∷ 236 ∷ 452 ∷ 553 ∷ 653 ∷ 751 ∷ 851 ∷ []) ∷
+    (22 ∷ 122 ∷ 338 ∷ 438 ∷ 539 ∷ 639 ∷ 737 ∷ 837 ∷ []) ∷
+    (8 ∷ 224 ∷ 324 ∷ 424 ∷ 525 ∷ 623 ∷ 723 ∷ 823 ∷ []) ∷
+    (110 ∷ 210 ∷ 310 ∷ 410 ∷ 509 ∷ 609 ∷ 709 ∷ 925 ∷ []) ∷
+    (96 ∷ 196 ∷ 296 ∷ 394 ∷ 495 ∷ 595 ∷ 811 ∷ 911 ∷ []) ∷
+    (82 ∷ 182 ∷ 280 ∷ 380 ∷ 481 ∷ 581 ∷ 797 ∷ 897 ∷ []) ∷
+    (68 ∷ 166 ∷ 266 ∷ 366 ∷ 467 ∷ 683 ∷ 783 ∷ 883 ∷ []) ∷
+    (52 ∷ 152 ∷ 252 ∷ 352 ∷ 569 ∷ 669 ∷ 769 ∷ 867 ∷ []) ∷
+    (38 ∷ 138 ∷ 238 ∷ 454 ∷ 555 ∷ 655 ∷ 755 ∷ 853 ∷ []) ∷
+    (24 ∷ 124 ∷ 340 ∷ 440 ∷ 541 ∷ 641 ∷ 739 ∷ 839 ∷ []) ∷
+    (10 ∷ 226 ∷ 326 ∷ 426 ∷ 527 ∷ 625 ∷ 725 ∷ 825 ∷ []) ∷
+    (112 ∷ 212 ∷ 312 ∷ 412 ∷ 511 ∷ 611 ∷ 711 ∷ 927 ∷ []) ∷
+    (98 ∷ 198 ∷ 298 ∷ 396 ∷ 497 ∷ 597 ∷ 697 ∷ 913 ∷ []) ∷
+    (84 ∷ 184 ∷ 282 ∷ 382 ∷ 483 ∷ 583 ∷ 799 ∷ 899 ∷ []) ∷
+    (70 ∷ 168 ∷ 268 ∷ 368 ∷ 469 ∷ 685 ∷ 785 ∷ 885 ∷ []) ∷
+    (54 ∷ 154 ∷ 254 ∷ 354 ∷ 571 ∷ 671 ∷ 771 ∷ 871 ∷ []) ∷
+    (40 ∷ 140 ∷ 240 ∷ 456 ∷ 557 ∷ 657 ∷ 757 ∷ 855 ∷ []) ∷
+    (26 ∷ 126 ∷ 342 ∷ 442 ∷ 543 ∷ 643 ∷ 741 ∷ 841 ∷ []) ∷
+    (12 ∷ 228 ∷ 328 ∷ 428 ∷ 529 ∷ 627 ∷ 727 ∷ 827 ∷ []) ∷
+    (114 ∷ 214 ∷ 314 ∷ 414 ∷ 513 ∷ 613 ∷ 713 ∷ 813 ∷ []) ∷
+    (100 ∷ 200 ∷ 300 ∷ 398 ∷ 499 ∷ 599 ∷ 699 ∷ 915 ∷ []) ∷
+    (86 ∷ 186 ∷ 284 ∷ 384 ∷ 485 ∷ 585 ∷ 801 ∷ 901 ∷ []) ∷
+    (72 ∷ 170 ∷ 270 ∷ 370 ∷ 471 ∷ 687 ∷ 787 ∷ 887 ∷ []) ∷
+    (56 ∷ 156 ∷ 256 ∷ 356 ∷ 573 ∷ 673 ∷ 773 ∷ 873 ∷ []) ∷
+    (42 ∷ 142 ∷ 242 ∷ 458 ∷ 559 ∷ 659 ∷ 759 ∷ 857 ∷ []) ∷
+    (28 ∷ 128 ∷ 344 ∷ 444 ∷ 545 ∷ 645 ∷ 743 ∷ 843 ∷ []) ∷
+    (14 ∷ 230 ∷ 330 ∷ 430 ∷ 531 ∷ 629 ∷ 729 ∷ 829 ∷ []) ∷ []
 
-agrees : ℕ → Bool
-agrees k = eqb (getD places k 0) (116 * (k % 8) + eAt k)
+-- what a table has at x of a row
+abbrev pub entry : List (List ℕ) → ℕ → ℕ → ℕ
+entry table row x = getD (getD table row []) x 0
 
-pub place-right : (k : ℕ) → k < 456 → getD places k 0 ≡ 116 * (k % 8) + eAt k
+agrees : ℕ → ℕ → Bool
+agrees row x = eqb (entry places row x) (116 * x + eAt (8 * row + x))
+
+place-right : (row x : ℕ) → row < 57 → x < 8 → entry places row x ≡ 116 * x + eAt (8 * row + x)
 unfolding agrees places placeOf eOf eAt
-place-right k h = eqb→eq (getD places k 0) (116 * (k % 8) + eAt k) (below agrees 456 tt k h)
-
-pub place-in : (k : ℕ) → k < 456 → getD places k 0 < 928
-place-in k h =
-    let e = place-right k h in
-    let l = every-bit k h .within in
-    omega (arith, e, l)
+place-right row x hr hx = eqb→eq (entry places row x) (116 * x + eAt (8 * row + x)) (below (agrees row) 8 (below (λ r. allBelow (agrees r) 8) 57 tt row hr) x hx)
 
 -- what stands at the place of bit k in eight bursts
 unfoldable pub placedIn : List ℕ → ℕ → ℕ
 placedIn bursts k = getD bursts (116 * (k % 8) + eAt k) 0
 
-pub placed : (bursts : List ℕ) (k : ℕ) → k < 456 → getD bursts (getD places k 0) 0 ≡ placedIn bursts k
-unfolding placedIn
-placed bursts k h = ap (λ (x : ℕ). getD bursts x 0) (place-right k h)
+module _ (t : List (List ℕ)) (et : t ≡ places) (row x : ℕ) (hr : row < 57) (hx : x < 8) where
+  is : entry t row x ≡ 116 * x + eAt (8 * row + x)
+  is = rw et (place-right row x hr hx)
+
+  pub place-in : entry t row x < 928
+  place-in = omega (arith, is, every-bit (8 * row + x) (omega arith) .within)
+
+  pub placed : (bursts : List ℕ) → getD bursts (entry t row x) 0 ≡ placedIn bursts (8 * row + x)
+  unfolding placedIn
+  placed bursts =
+      let e : (8 * row + x) % 8 ≡ x = omega arith in
+      rw (is, e)
 
 -- ---- a list twice: an index past the first copy finds the second
 module _ (c : List ℕ) (n : ℕ) (l : length c ≡ n) where
@@ -95,35 +131,88 @@ placed-twice e k l h = ⊎-elim early late (lt-or-le (k % 8) 4)
         twice-second e 464 l (116 * (k % 4) + eAt k) (116 * (k % 8) + eAt k) (omega (arith, q, r))
 
 -- ---- which bit stands at e(x) of the first burst, and 57 i further on in burst i
-unfoldable pub bitTable : List ℕ
+unfoldable pub bitTable : List (List ℕ)
 bitTable =
-    0 ∷ 228 ∷ 64 ∷ 292 ∷ 128 ∷ 356 ∷ 192 ∷ 420 ∷ 256 ∷ 28 ∷ 320 ∷ 92 ∷ 384 ∷ 156 ∷ 448 ∷ 220 ∷
-    56 ∷ 284 ∷ 120 ∷ 348 ∷ 184 ∷ 412 ∷ 248 ∷ 20 ∷ 312 ∷ 84 ∷ 376 ∷ 148 ∷ 440 ∷ 212 ∷ 48 ∷ 276 ∷
-    112 ∷ 340 ∷ 176 ∷ 404 ∷ 240 ∷ 12 ∷ 304 ∷ 76 ∷ 368 ∷ 140 ∷ 432 ∷ 204 ∷ 40 ∷ 268 ∷ 104 ∷ 332 ∷
-    168 ∷ 396 ∷ 232 ∷ 4 ∷ 296 ∷ 68 ∷ 360 ∷ 132 ∷ 424 ∷ 132 ∷ 424 ∷ 196 ∷ 32 ∷ 260 ∷ 96 ∷ 324 ∷
-    160 ∷ 388 ∷ 224 ∷ 452 ∷ 288 ∷ 60 ∷ 352 ∷ 124 ∷ 416 ∷ 188 ∷ 24 ∷ 252 ∷ 88 ∷ 316 ∷ 152 ∷ 380 ∷
-    216 ∷ 444 ∷ 280 ∷ 52 ∷ 344 ∷ 116 ∷ 408 ∷ 180 ∷ 16 ∷ 244 ∷ 80 ∷ 308 ∷ 144 ∷ 372 ∷ 208 ∷ 436 ∷
-    272 ∷ 44 ∷ 336 ∷ 108 ∷ 400 ∷ 172 ∷ 8 ∷ 236 ∷ 72 ∷ 300 ∷ 136 ∷ 364 ∷ 200 ∷ 428 ∷ 264 ∷ 36 ∷
-    328 ∷ 100 ∷ 392 ∷ 164 ∷ []
+    (0 ∷ 228 ∷ []) ∷
+    (64 ∷ 292 ∷ []) ∷
+    (128 ∷ 356 ∷ []) ∷
+    (192 ∷ 420 ∷ []) ∷
+    (256 ∷ 28 ∷ []) ∷
+    (320 ∷ 92 ∷ []) ∷
+    (384 ∷ 156 ∷ []) ∷
+    (448 ∷ 220 ∷ []) ∷
+    (56 ∷ 284 ∷ []) ∷
+    (120 ∷ 348 ∷ []) ∷
+    (184 ∷ 412 ∷ []) ∷
+    (248 ∷ 20 ∷ []) ∷
+    (312 ∷ 84 ∷ []) ∷
+    (376 ∷ 148 ∷ []) ∷
+    (440 ∷ 212 ∷ []) ∷
+    (48 ∷ 276 ∷ []) ∷
+    (112 ∷ 340 ∷ []) ∷
+    (176 ∷ 404 ∷ []) ∷
+    (240 ∷ 12 ∷ []) ∷
+    (304 ∷ 76 ∷ []) ∷
+    (368 ∷ 140 ∷ []) ∷
+    (432 ∷ 204 ∷ []) ∷
+    (40 ∷ 268 ∷ []) ∷
+    (104 ∷ 332 ∷ []) ∷
+    (168 ∷ 396 ∷ []) ∷
+    (232 ∷ 4 ∷ []) ∷
+    (296 ∷ 68 ∷ []) ∷
+    (360 ∷ 132 ∷ []) ∷
+    (424 ∷ 132 ∷ []) ∷
+    (424 ∷ 196 ∷ []) ∷
+    (32 ∷ 260 ∷ []) ∷
+    (96 ∷ 324 ∷ []) ∷
+    (160 ∷ 388 ∷ []) ∷
+    (224 ∷ 452 ∷ []) ∷
+    (288 ∷ 60 ∷ []) ∷
+    (352 ∷ 124 ∷ []) ∷
+    (416 ∷ 188 ∷ []) ∷
+    (24 ∷ 252 ∷ []) ∷
+    (88 ∷ 316 ∷ []) ∷
+    (152 ∷ 380 ∷ []) ∷
+    (216 ∷ 444 ∷ []) ∷
+    (280 ∷ 52 ∷ []) ∷
+    (344 ∷ 116 ∷ []) ∷
+    (408 ∷ 180 ∷ []) ∷
+    (16 ∷ 244 ∷ []) ∷
+    (80 ∷ 308 ∷ []) ∷
+    (144 ∷ 372 ∷ []) ∷
+    (208 ∷ 436 ∷ []) ∷
+    (272 ∷ 44 ∷ []) ∷
+    (336 ∷ 108 ∷ []) ∷
+    (400 ∷ 172 ∷ []) ∷
+    (8 ∷ 236 ∷ []) ∷
+    (72 ∷ 300 ∷ []) ∷
+    (136 ∷ 364 ∷ []) ∷
+    (200 ∷ 428 ∷ []) ∷
+    (264 ∷ 36 ∷ []) ∷
+    (328 ∷ 100 ∷ []) ∷
+    (392 ∷ 164 ∷ []) ∷ []
+
+abbrev bitIn : ℕ → ℕ
+bitIn x = entry bitTable (x / 2) (x % 2)
 
 bit-agrees : ℕ → Bool
-bit-agrees x = both (eqb (getD bitTable x 0) (bitAt 0 (placeAt x))) (eqb (x % 2) (placeAt x % 2))
+bit-agrees x = both (eqb (bitIn x) (bitAt 0 (placeAt x))) (eqb (x % 2) (placeAt x % 2))
 
 bit-tested : (x : ℕ) → x < 116 → T (bit-agrees x)
 unfolding bit-agrees bitTable placeAt bitAt
 bit-tested x h = below bit-agrees 116 tt x h
 
-bit-right : (x : ℕ) → x < 116 → getD bitTable x 0 ≡ bitAt 0 (placeAt x)
+bit-right : (x : ℕ) → x < 116 → bitIn x ≡ bitAt 0 (placeAt x)
 unfolding bit-agrees
-bit-right x h = eqb→eq (getD bitTable x 0) (bitAt 0 (placeAt x)) (both-left (eqb (getD bitTable x 0) (bitAt 0 (placeAt x))) (eqb (x % 2) (placeAt x % 2)) (bit-tested x h))
+bit-right x h = eqb→eq (bitIn x) (bitAt 0 (placeAt x)) (both-left (eqb (bitIn x) (bitAt 0 (placeAt x))) (eqb (x % 2) (placeAt x % 2)) (bit-tested x h))
 
 side-right : (x : ℕ) → x < 116 → x % 2 ≡ placeAt x % 2
 unfolding bit-agrees
-side-right x h = eqb→eq (x % 2) (placeAt x % 2) (both-right (eqb (getD bitTable x 0) (bitAt 0 (placeAt x))) (eqb (x % 2) (placeAt x % 2)) (bit-tested x h))
+side-right x h = eqb→eq (x % 2) (placeAt x % 2) (both-right (eqb (bitIn x) (bitAt 0 (placeAt x))) (eqb (x % 2) (placeAt x % 2)) (bit-tested x h))
 
-pub bit-in : (x : ℕ) → x < 116 → getD bitTable x 0 < 456
+in-block : (x : ℕ) → x < 116 → bitIn x < 456
 unfolding bitAt
-bit-in x h = let e = bit-right x h in omega (arith, e)
+in-block x h = let e = bit-right x h in omega (arith, e)
 
 further : (m i : ℕ) → (m % 456 + 57 * i) % 456 ≡ (m + 57 * i) % 456
 further m i = omega arith
@@ -140,15 +229,32 @@ unflagged i a b x = pick (eqb (placeAt x % 2) 0) (getD a (bitAt i (placeAt x)) 0
 
 -- the same out of blocks that stand twice
 unfoldable pub laid : ℕ → List ℕ → List ℕ → ℕ → ℕ
-laid i a b x = pick (eqb (x % 2) 0) (getD a (getD bitTable x 0 + 57 * i) 0) (getD b (getD bitTable x 0 + 57 * i) 0)
+laid i a b x = pick (eqb (x % 2) 0) (getD a (bitIn x + 57 * i) 0) (getD b (bitIn x + 57 * i) 0)
 
-pub laid-even : (i : ℕ) (a b : List ℕ) (k : ℕ) → laid i a b (2 * k) ≡ getD a (getD bitTable (2 * k) 0 + 57 * i) 0
-unfolding laid
-laid-even i a b k = let z : 2 * k % 2 ≡ 0 = omega arith in rw (eq-eqb (2 * k % 2) 0 z)
+-- of the two bits of a row the first is at the even place and the second at the odd one
+module _ (t : List (List ℕ)) (et : t ≡ bitTable) (i k : ℕ) where
+  even : bitIn (2 * k) ≡ entry t k 0
+  even =
+      let q : 2 * k / 2 ≡ k = omega arith in
+      let r : 2 * k % 2 ≡ 0 = omega arith in
+      rw (q, r, et)
 
-pub laid-odd : (i : ℕ) (a b : List ℕ) (k : ℕ) → laid i a b (2 * k + 1) ≡ getD b (getD bitTable (2 * k + 1) 0 + 57 * i) 0
-unfolding laid
-laid-odd i a b k = rw (ne-eqb ((2 * k + 1) % 2) 0 (λ (z : (2 * k + 1) % 2 ≡ 0). omega arith))
+  odd : bitIn (2 * k + 1) ≡ entry t k 1
+  odd =
+      let q : (2 * k + 1) / 2 ≡ k = omega arith in
+      let r : (2 * k + 1) % 2 ≡ 1 = omega arith in
+      rw (q, r, et)
+
+  pub bit-in : i < 4 → k < 58 → (entry t k 0 + 57 * i < 912) × (entry t k 1 + 57 * i < 912)
+  bit-in hi hk = (omega (arith, even, in-block (2 * k) (omega arith)), omega (arith, odd, in-block (2 * k + 1) (omega arith)))
+
+  pub laid-even : (a b : List ℕ) → getD a (entry t k 0 + 57 * i) 0 ≡ laid i a b (2 * k)
+  unfolding laid
+  laid-even a b = let r : 2 * k % 2 ≡ 0 = omega arith in rw (eq-eqb (2 * k % 2) 0 r, even)
+
+  pub laid-odd : (a b : List ℕ) → getD b (entry t k 1 + 57 * i) 0 ≡ laid i a b (2 * k + 1)
+  unfolding laid
+  laid-odd a b = rw (ne-eqb ((2 * k + 1) % 2) 0 (λ (z : (2 * k + 1) % 2 ≡ 0). omega arith), odd)
 
 round : (m : ℕ) → 456 ≤ m → m < 912 → m % 456 ≡ m - 456
 round m h l = omega arith
@@ -163,8 +269,8 @@ around c m l h =
 stands : (i : ℕ) (a b : List ℕ) → i < 4 → length a ≡ 456 → length b ≡ 456 → (x : ℕ) → x < 116 → laid i (a ++ a) (b ++ b) x ≡ unflagged i a b x
 unfolding laid unflagged
 stands i a b hi la lb x h =
-    let n : ℕ = getD bitTable x 0 + 57 * i in
-    let fits : n < 912 = let l = bit-in x h in omega (arith, l, hi) in
+    let n : ℕ = bitIn x + 57 * i in
+    let fits : n < 912 = let l = in-block x h in omega (arith, l, hi) in
     let k : n % 456 ≡ bitAt i (placeAt x) = ap (λ (m : ℕ). (m + 57 * i) % 456) (bit-right x h) ∙ bit-further i (placeAt x) in
     ap₂ (pick (eqb (x % 2) 0)) (around a n la fits) (around b n lb fits)
     ∙ ap₂ (λ (s m : ℕ). pick (eqb s 0) (getD a m 0) (getD b m 0)) (side-right x h) k
