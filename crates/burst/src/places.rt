@@ -7,7 +7,7 @@ ghost use Rattle.bits.specs.Bits.{tab};
 ghost use Rattle.burst.specs.Places.{flagIn, flagsOf, four, gathered};
 ghost use Rattle.burst.specs.laws.Table.{bitTable, burstOfTwice, fourOfTwice, laid, placedIn, places};
 
-// Where a block's bits stand in its eight bursts, bit 8 row + x at x of a row: at 116 x, and its e-index further (000, 3.1.3, 3.1.4).
+// Where bit 8 row + x of a block stands in its eight bursts: 116 x, and its e-index further (000, 3.1.3, 3.1.4).
 const PLACES: [[u16; 8]; 57] = [
     [0, 216, 316, 416, 515, 615, 715, 815],
     [102, 202, 302, 400, 501, 601, 701, 917],
@@ -68,7 +68,7 @@ const PLACES: [[u16; 8]; 57] = [
     [14, 230, 330, 430, 531, 629, 729, 829],
 ];
 
-// Which bits stand at e(2x) and e(2x+1) of the first burst, at the flags any. In burst i it is the bit 57 i further on (000, 3.1.3).
+// Row x: which bits stand at e(2x) and e(2x+1) of the first burst, at the flags any. In burst i it is the bit 57 i further on (000, 3.1.3).
 const BITS: [[u16; 2]; 58] = [
     [0, 228],
     [64, 292],
@@ -130,6 +130,19 @@ const BITS: [[u16; 2]; 58] = [
     [392, 164],
 ];
 
+// Each table whole, made in a function of its own: so its rows stay out of the proof of the loop that reads them.
+fn place_rows() -> [[u16; 8]; 57]
+    ensures { λ r. ⌜ r ≡ places ⌝ }
+{
+    PLACES
+}
+
+fn bit_rows() -> [[u16; 2]; 58]
+    ensures { λ r. ⌜ r ≡ bitTable ⌝ }
+{
+    BITS
+}
+
 // c, and c once more behind it.
 fn twice(c: &[u8], whole: &mut [u8])
     requires { ⌜ length (now whole) ≡ length (now c) + length (now c) ⌝ }
@@ -139,13 +152,6 @@ fn twice(c: &[u8], whole: &mut [u8])
     let m = whole.len();
     bits::copy(c, &mut whole[0..n]);
     bits::copy(c, &mut whole[n..m]);
-}
-
-// A table by value, whole, so that a loop over it does not make it anew.
-fn bit_rows() -> [[u16; 2]; 58]
-    ensures { λ r. ⌜ r ≡ bitTable ⌝ }
-{
-    BITS
 }
 
 // The bits of burst i modulo 4: at e(x) the one that the table has, 57 i further on, of block a where x is even and of block b where it
@@ -210,12 +216,6 @@ pub fn fill_four(a: &[u8], b: &[u8], flags: u8, e: &mut [u8])
     let mut goes_on = [0u8; 912];
     twice(b, &mut goes_on);
     fill_parts(&begins, &goes_on, flags, e);
-}
-
-fn place_rows() -> [[u16; 8]; 57]
-    ensures { λ r. ⌜ r ≡ places ⌝ }
-{
-    PLACES
 }
 
 // The bits of a block, each from its place in the eight bursts.

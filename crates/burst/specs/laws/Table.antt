@@ -12,7 +12,7 @@ use borrow.Author.Tests.{eqb-true, eqb-false, eq-eqb, ne-eqb}
 use Rattle.bits.specs.Bits.{pick, both, allBelow, tab}
 use Rattle.bits.specs.laws.Cases.{lt-or-le}
 use Rattle.bits.specs.laws.Parts.{put, put-four}
-use Rattle.bits.specs.laws.Tab.{below, both-left, both-right, is-tab, at-tab, length-tab, tab-same, at-left, at-right}
+use Rattle.bits.specs.laws.Tab.{below, both-left, both-right, is-tab, at-tab, length-tab, at-left, at-right}
 use Rattle.burst.specs.Places.{placeOf, eOf, eAt, placeAt, bitAt, flagIn, cell, burst, four, gatheredAt}
 use Rattle.burst.specs.laws.Places.{every-bit}
 

@@ -1,4 +1,5 @@
 -- `burst::places::flag` is right: the bits below the flag's are shifted out.
+use mathlib.Core.Path.{refl}
 use borrow.Author.Needs.{needs}
 use Rattle.burst.specs.Places.{flagIn}
 use Rattle.burst.proofs.places.flag.Statement.{statement}
@@ -6,7 +7,7 @@ use Rattle.burst.proofs.places.flag.Tie as tie
 
 returns : tie.Need-returns
 unfolding flagIn
-returns c = search needs
+returns c = refl
 
 pub flag-spec : {M : Type 1} → statement M
 flag-spec = tie.close (tie.spec (λ c. search needs) (λ c. search needs) (λ c. search needs) returns)

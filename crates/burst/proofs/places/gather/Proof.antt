@@ -1,7 +1,7 @@
 -- `burst::places::gather` is right: it fills the places row by row, each with what stands where the table says.
 use mathlib.Core.List.{List}
 use mathlib.Core.Path.{_≡_, sym, _∙_, subst}
-use Prim.Native.Nat.{ℕ, _+_, _-_, _*_, _≤_, _<_}
+use Prim.Native.Nat.{ℕ, _+_, _-_, _*_, _≤_}
 use native.Mathlib.Omega.{arith}
 use lib.ListN.{getD, set}
 use Rattle.bits.specs.laws.Tab.{Filled, filled-none, filled-more, filled-all}
