@@ -1,5 +1,5 @@
--- A block out of the held bursts: the lowest bits of what is gathered are its coded bits; and its flags, gathered one by one into a number,
--- are below 256 and as many ones as the number has.
+-- A block out of the held bursts: the lowest bits of what is gathered are its coded bits; and its flags, put one by one into a number, fit
+-- eight bits, and the number has as many ones as flags are 1.
 use mathlib.Core.List.{List}
 use mathlib.Core.Path.{_≡_, refl, ap, ap₂, _∙_, subst}
 use Prim.Native.Nat.{ℕ, zero, suc, _+_, _*_, _%_, _^_, _≤_, _<_}
