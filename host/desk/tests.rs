@@ -7,28 +7,15 @@
 // Loops keep the index k of the standard.
 #![allow(clippy::needless_range_loop, clippy::manual_memcpy)]
 
-#[path = "../reference/burst.rs"]
-mod burst;
-#[path = "../reference/coding.rs"]
-mod coding;
-#[path = "../reference/decoding.rs"]
-mod decoding;
-#[path = "../reference/exhaustive.rs"]
-mod exhaustive;
-#[path = "../reference/lists.rs"]
-mod lists;
-#[path = "../reference/polynomial.rs"]
-mod polynomial;
-#[path = "../reference/random.rs"]
-mod random;
-#[path = "../reference/receiving.rs"]
-mod receiving;
-#[path = "../reference/survivors.rs"]
-mod survivors;
+#[path = "../reference/chance/mod.rs"]
+mod chance;
+#[path = "../reference/model/mod.rs"]
+mod model;
 
-use lists::random_bits;
-use random::Random;
-use receiving::{Received, Refusal};
+use chance::lists::{self, random_bits};
+use chance::random::Random;
+use model::receiving::{Received, Refusal};
+use model::{coding, exhaustive, receiving};
 
 /// The calls of desk.h, on slices.
 mod library {

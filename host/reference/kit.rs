@@ -1,12 +1,12 @@
 //! The kit's line protocol: a word and its arguments, parted by single spaces. One sending and one
 //! receiving stream live through all of the lines.
 
-use crate::coding;
+use crate::model::coding;
+use crate::model::receiving::{self, Received, Refusal};
+use crate::model::receiving_stream::{Kind, Receiver, Taken};
+use crate::model::sending_stream::Sender;
+use crate::model::trellis;
 use crate::page::written;
-use crate::receiving::{self, Received, Refusal};
-use crate::receiving_stream::{Kind, Receiver, Taken};
-use crate::sending_stream::Sender;
-use crate::trellis;
 
 /// A line over this many bytes is not understood.
 const LONGEST_LINE: usize = 1000;

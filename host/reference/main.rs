@@ -15,33 +15,17 @@
 // Loops keep the index k of the standard, so that each reads like its formula.
 #![allow(clippy::needless_range_loop, clippy::manual_memcpy)]
 
-mod bench;
-mod burst;
-mod cable;
-mod coding;
-mod decoding;
-mod diagonal;
-mod exhaustive;
-mod full_lines;
+mod chance;
 mod kit;
-mod lesson_lines;
-mod lines;
-mod lists;
+mod makers;
+mod model;
 mod page;
-mod polynomial;
-mod random;
-mod received_lines;
-mod receiving;
-mod receiving_stream;
-mod refused_calls;
-mod sending_stream;
 mod sheet;
-mod sheet_lines;
-mod survivors;
-mod trellis;
-mod view_lines;
 
 use crate::kit::Kit;
+use crate::makers::{
+    full_lines, lesson_lines, received_lines, sent_lines, sheet_lines, view_lines,
+};
 use std::io::{Read, Result, Write};
 use std::process::ExitCode;
 
@@ -103,7 +87,7 @@ fn run(task: Task) -> Result<()> {
             page::answers(&standard_input()?, |line| kit.answer(line))
         }
         Task::Sheet => page::answers(&standard_input()?, sheet::answer),
-        Task::MakeLines(seed, count) => page::made(seed, count, lines::line),
+        Task::MakeLines(seed, count) => page::made(seed, count, sent_lines::line),
         Task::MakeReceived(seed, count) => page::made(seed, count, received_lines::line),
         Task::MakeViews(seed, count) => page::made(seed, count, view_lines::line),
         Task::MakeLessons(seed, count) => {

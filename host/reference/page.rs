@@ -1,6 +1,6 @@
 //! A page is many lines. A line is any bytes but 10 and ends in byte 10.
 
-use crate::random::Random;
+use crate::chance::random::Random;
 
 /// The lines of a page; a last line without its newline counts if it is not empty.
 fn lines_of(page: &[u8]) -> Vec<&[u8]> {

@@ -1,6 +1,6 @@
 //! The access sheet: two decimal digits (identity), a space, eight characters d(0)..d(7).
 
-use crate::coding;
+use crate::model::coding;
 use crate::page::written;
 
 /// The length, the two digits and the space are as a request has them.

@@ -6,30 +6,13 @@
 // Loops keep the index k of the standard.
 #![allow(clippy::needless_range_loop, clippy::manual_memcpy)]
 
-#[path = "../reference/burst.rs"]
-mod burst;
-#[path = "../reference/coding.rs"]
-mod coding;
-#[path = "../reference/decoding.rs"]
-mod decoding;
-#[path = "../reference/diagonal.rs"]
-mod diagonal;
-#[path = "../reference/exhaustive.rs"]
-mod exhaustive;
-#[path = "../reference/polynomial.rs"]
-mod polynomial;
-#[path = "../reference/receiving.rs"]
-mod receiving;
-#[path = "../reference/receiving_stream.rs"]
-mod receiving_stream;
-#[path = "../reference/sending_stream.rs"]
-mod sending_stream;
-#[path = "../reference/survivors.rs"]
-mod survivors;
+#[path = "../reference/model/mod.rs"]
+mod model;
 
-use receiving::Received;
-use receiving_stream::{Receiver, Taken};
-use sending_stream::{sent_and_ended, Sender};
+use model::receiving::Received;
+use model::receiving_stream::{Receiver, Taken};
+use model::sending_stream::{sent_and_ended, Sender};
+use model::{coding, receiving};
 use std::process::ExitCode;
 use std::slice::from_ref;
 

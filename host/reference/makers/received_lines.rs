@@ -1,11 +1,11 @@
 //! Random kit lines that receive: more than half are decoded, the others are wrong in every way
 //! foreseen.
 
-use crate::burst;
-use crate::coding;
-use crate::lines::{self, Request};
-use crate::lists;
-use crate::random::Random;
+use crate::chance::lists;
+use crate::chance::random::Random;
+use crate::makers::sent_lines::{self as lines, Request};
+use crate::model::burst;
+use crate::model::coding;
 
 /// A receiving verb.
 #[derive(Clone, Copy)]
@@ -402,7 +402,7 @@ mod tests {
 
     #[test]
     fn no_made_line_holds_a_newline() {
-        crate::lines::no_newline(46, 3000, line);
+        crate::makers::sent_lines::no_newline(46, 3000, line);
     }
 
     #[test]

@@ -1,8 +1,8 @@
 //! The sending stream: each coded bit is scattered to its burst and place, in a list of bursts
 //! that grows by four with every block.
 
-use crate::coding::{self, WRONG_LENGTH};
-use crate::diagonal::{self, BURST};
+use crate::model::coding::{self, WRONG_LENGTH};
+use crate::model::diagonal::{self, BURST};
 
 /// So many blocks make a stream full.
 pub const MOST_BLOCKS: usize = 16_383;
@@ -90,9 +90,9 @@ pub fn sent_and_ended(blocks: &[Vec<u8>]) -> Vec<Vec<u8>> {
 #[cfg(test)]
 mod tests {
     use super::*;
-    use crate::burst::{interleave, map_on_burst, places};
-    use crate::lists::{add, random_bits};
-    use crate::random::Random;
+    use crate::chance::lists::{add, random_bits};
+    use crate::chance::random::Random;
+    use crate::model::burst::{interleave, map_on_burst, places};
 
     /// Random blocks, speech and FACCH in turn.
     fn blocks(seed: u64, number: usize) -> Vec<Vec<u8>> {

@@ -1,8 +1,8 @@
 //! The nearest candidate. Candidates are all u of n bits whose last four are 0; the nearest is
 //! the one whose pairs disagree with the received bits in the fewest places.
 
-use crate::exhaustive::{bits_of, Received};
-use crate::survivors::{advance, Survivor};
+use crate::model::exhaustive::{bits_of, Received};
+use crate::model::survivors::{advance, Survivor};
 
 /// Up to this many free bits, all candidates are gone through.
 const FEW_FREE_BITS: usize = 14;
@@ -50,9 +50,9 @@ fn nearest_survivor(received: &[u8], n: usize) -> Survivor {
 #[cfg(test)]
 mod tests {
     use super::*;
-    use crate::coding::convolve;
-    use crate::lists;
-    use crate::random::Random;
+    use crate::chance::lists;
+    use crate::chance::random::Random;
+    use crate::model::coding::convolve;
 
     /// The number of candidates that have the fewest disagreements.
     fn equals(received: &[u8], n: usize) -> usize {

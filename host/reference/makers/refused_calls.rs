@@ -1,12 +1,12 @@
 //! Lines that leave both streams as they are: calls that are refused, lines that are not
 //! understood, and the verbs that call no stream.
 
-use crate::bench::{self, Bench};
-use crate::diagonal::BURST;
-use crate::lines;
-use crate::random::Random;
-use crate::received_lines;
-use crate::view_lines;
+use crate::chance::random::Random;
+use crate::makers::bench::{self, Bench};
+use crate::makers::received_lines;
+use crate::makers::sent_lines as lines;
+use crate::makers::view_lines;
+use crate::model::diagonal::BURST;
 
 /// One random line that leaves the bench's streams as they are.
 pub fn line(random: &mut Random, bench: &Bench) -> Vec<u8> {
@@ -340,6 +340,6 @@ mod tests {
     #[test]
     fn no_made_line_holds_a_newline() {
         let (_, bench) = under_way(true);
-        crate::lines::no_newline(84, 5000, |random| line(random, &bench));
+        crate::makers::sent_lines::no_newline(84, 5000, |random| line(random, &bench));
     }
 }

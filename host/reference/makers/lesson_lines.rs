@@ -1,10 +1,10 @@
 //! Lessons as kit lines: blocks are sent, their bursts go through the cable and are taken in
 //! order, and calls that are refused come in between.
 
-use crate::bench::Bench;
-use crate::random::Random;
-use crate::refused_calls;
-use crate::sending_stream::MOST_BLOCKS;
+use crate::chance::random::Random;
+use crate::makers::bench::Bench;
+use crate::makers::refused_calls;
+use crate::model::sending_stream::MOST_BLOCKS;
 
 /// So many lines of lessons, each with fresh streams; the kit's are so for the first.
 pub fn lessons(random: &mut Random, count: usize) -> Vec<Vec<u8>> {

@@ -83,9 +83,9 @@ pub fn advance(survivors: &[Survivor], received: &[u8], next_bits: &[u8]) -> Vec
 #[cfg(test)]
 mod tests {
     use super::*;
-    use crate::coding::convolve;
-    use crate::lists::random_bits;
-    use crate::random::Random;
+    use crate::chance::lists::random_bits;
+    use crate::chance::random::Random;
+    use crate::model::coding::convolve;
 
     #[test]
     fn the_state_is_the_last_four_bits_with_the_newest_highest() {

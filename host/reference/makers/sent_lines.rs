@@ -1,6 +1,6 @@
 //! Random kit lines: more than half are valid sends, the others are wrong in every way foreseen.
 
-use crate::random::Random;
+use crate::chance::random::Random;
 
 /// Each verb with the number of bits it reads.
 const VERBS: [(&str, usize); 5] = [

@@ -47,8 +47,8 @@ pub fn gather(bursts: &[Vec<u8>]) -> Vec<u8> {
 #[cfg(test)]
 mod tests {
     use super::*;
-    use crate::lists::random_bits;
-    use crate::random::Random;
+    use crate::chance::lists::random_bits;
+    use crate::chance::random::Random;
 
     /// The index in e to which a place is mapped.
     fn mapped(place: usize) -> usize {

@@ -1,7 +1,7 @@
 //! The five sending entries. A bit is one byte, 0 or 1; a refusal is its number.
 
-use crate::burst;
-use crate::polynomial::{from_powers, multiply, parity, Polynomial};
+use crate::model::burst;
+use crate::model::polynomial::{from_powers, multiply, parity, Polynomial};
 
 /// A buffer has another length than the table says.
 pub const WRONG_LENGTH: u8 = 1;
@@ -146,9 +146,9 @@ pub fn sch(d: &[u8]) -> Result<Vec<u8>, u8> {
 #[cfg(test)]
 mod tests {
     use super::*;
-    use crate::lists::random_bits;
-    use crate::polynomial::leaves_all_ones;
-    use crate::random::Random;
+    use crate::chance::lists::random_bits;
+    use crate::chance::random::Random;
+    use crate::model::polynomial::leaves_all_ones;
 
     /// The indices at which a one stands.
     fn ones(bits: &[u8]) -> Vec<usize> {

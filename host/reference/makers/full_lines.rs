@@ -1,11 +1,11 @@
 //! A full stream as kit lines: 16,383 blocks sent, its end, its 65,536 bursts taken, and what is
 //! refused at each edge.
 
-use crate::bench::{block, send, sent_bursts, take};
-use crate::cable;
-use crate::lines::characters;
-use crate::random::Random;
-use crate::sending_stream::MOST_BLOCKS;
+use crate::chance::cable;
+use crate::chance::random::Random;
+use crate::makers::bench::{block, send, sent_bursts, take};
+use crate::makers::sent_lines::characters;
+use crate::model::sending_stream::MOST_BLOCKS;
 
 /// The lines of one full stream.
 pub fn lines(random: &mut Random) -> Vec<Vec<u8>> {

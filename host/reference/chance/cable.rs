@@ -1,8 +1,8 @@
 //! The cable: alters the bursts of an ended stream, block by block and burst by burst.
 
-use crate::diagonal::{self, BURST};
-use crate::lists::{self, random_bits};
-use crate::random::Random;
+use crate::chance::lists::{self, random_bits};
+use crate::chance::random::Random;
+use crate::model::diagonal::{self, BURST};
 
 /// The cable of a lesson: quiet and noisy stretches, altered flags, bad bursts.
 pub fn lesson(random: &mut Random, bursts: &mut [Vec<u8>]) {

@@ -1,6 +1,6 @@
 //! Random access sheet lines: more than half are valid requests.
 
-use crate::random::Random;
+use crate::chance::random::Random;
 
 /// One random sheet line, without its newline; of a hundred, sixty are valid requests.
 pub fn line(random: &mut Random) -> Vec<u8> {
@@ -165,7 +165,7 @@ mod tests {
 
     #[test]
     fn no_made_line_holds_a_newline() {
-        crate::lines::no_newline(17, 5000, line);
+        crate::makers::sent_lines::no_newline(17, 5000, line);
     }
 
     #[test]

@@ -1,7 +1,7 @@
 //! Block diagonal interleaving, 3.1.3 and 3.1.4: where the bits and the flags of block n stand in
 //! the bursts of a stream.
 
-use crate::burst::burst_and_place;
+use crate::model::burst::burst_and_place;
 
 /// A burst is e(0)..e(115).
 pub const BURST: usize = 116;
@@ -61,8 +61,8 @@ pub fn flags(bursts: &[Vec<u8>], n: usize) -> Vec<u8> {
 #[cfg(test)]
 mod tests {
     use super::*;
-    use crate::lists::random_bits;
-    use crate::random::Random;
+    use crate::chance::lists::random_bits;
+    use crate::chance::random::Random;
 
     /// Table 1 of document 000: row j = 0, 2, .. 112 and j = 1, 3, .. 113, column k mod 8.
     const TABLE_1: [[usize; 8]; 57] = [

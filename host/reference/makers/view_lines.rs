@@ -1,9 +1,9 @@
 //! Random kit lines for the trellis view: more than half are valid.
 
-use crate::coding::convolve;
-use crate::lines::{self, Request};
-use crate::lists;
-use crate::random::Random;
+use crate::chance::lists;
+use crate::chance::random::Random;
+use crate::makers::sent_lines::{self as lines, Request};
+use crate::model::coding::convolve;
 
 /// One random view line, without its newline; of a hundred, seventy are views.
 pub fn line(random: &mut Random) -> Vec<u8> {
@@ -202,7 +202,7 @@ mod tests {
 
     #[test]
     fn no_made_line_holds_a_newline() {
-        crate::lines::no_newline(51, 3000, line);
+        crate::makers::sent_lines::no_newline(51, 3000, line);
     }
 
     #[test]

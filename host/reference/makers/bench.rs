@@ -1,12 +1,12 @@
 //! A bench: a stream of blocks on its way from a sender through the cable to a receiver, and the
 //! kit lines that this takes.
 
-use crate::cable;
-use crate::diagonal::BURST;
-use crate::lines;
-use crate::lists;
-use crate::random::Random;
-use crate::sending_stream::sent_and_ended;
+use crate::chance::cable;
+use crate::chance::lists;
+use crate::chance::random::Random;
+use crate::makers::sent_lines as lines;
+use crate::model::diagonal::BURST;
+use crate::model::sending_stream::sent_and_ended;
 
 /// So many numbers there are for bursts.
 const NUMBERS: usize = 65_536;

@@ -1,12 +1,12 @@
 //! The five receiving entries: the nearest candidate, then the verdict from the parity bits in it.
 
-use crate::burst;
-use crate::coding::{
+use crate::model::burst;
+use crate::model::coding::{
     access_generator, check, check_identity, control_generator, identity_bits, sch_generator,
     speech_generator,
 };
-use crate::decoding::nearest;
-use crate::polynomial::leaves_all_ones;
+use crate::model::decoding::nearest;
+use crate::model::polynomial::leaves_all_ones;
 
 /// The parity is bad.
 const BAD_PARITY: u8 = 8;
@@ -105,9 +105,9 @@ pub fn sch(c: &[u8]) -> Received {
 #[cfg(test)]
 mod tests {
     use super::*;
-    use crate::coding;
-    use crate::lists::{add, alter, random_bits};
-    use crate::random::Random;
+    use crate::chance::lists::{add, alter, random_bits};
+    use crate::chance::random::Random;
+    use crate::model::coding;
 
     /// Refusal 8 and the count.
     fn bad_parity(count: usize) -> Received {

@@ -1,8 +1,8 @@
 //! The trellis view: after t pairs, the fewest disagreements of any t bits in each state.
 
-use crate::coding::{NOT_A_BIT, WRONG_LENGTH};
-use crate::exhaustive::{bits_of, Received};
-use crate::survivors::{advance, state, Survivor};
+use crate::model::coding::{NOT_A_BIT, WRONG_LENGTH};
+use crate::model::exhaustive::{bits_of, Received};
+use crate::model::survivors::{advance, state, Survivor};
 
 /// Up to this many pairs, all bits are gone through.
 const FEW_PAIRS: usize = 12;
@@ -57,10 +57,10 @@ fn view_of_survivors(received: &[u8]) -> View {
 #[cfg(test)]
 mod tests {
     use super::*;
-    use crate::coding::convolve;
-    use crate::decoding::nearest;
-    use crate::lists;
-    use crate::random::Random;
+    use crate::chance::lists;
+    use crate::chance::random::Random;
+    use crate::model::coding::convolve;
+    use crate::model::decoding::nearest;
 
     /// A view with some states, all others without any bits.
     fn only(states: &[(usize, usize)]) -> View {

@@ -1,9 +1,9 @@
 //! The receiving stream: holds every burst taken, and picks each bit of a block by the formula.
 
-use crate::coding::check;
-use crate::diagonal::{self, BURST};
-use crate::receiving::{self, Received, Refusal};
-use crate::sending_stream::STREAM_FULL;
+use crate::model::coding::check;
+use crate::model::diagonal::{self, BURST};
+use crate::model::receiving::{self, Received, Refusal};
+use crate::model::sending_stream::STREAM_FULL;
 
 /// Burst 65,535 is the last that can be taken.
 const MOST_BURSTS: usize = 65_536;
@@ -104,9 +104,9 @@ impl Receiver {
 #[cfg(test)]
 mod tests {
     use super::*;
-    use crate::lists::{alter, random_bits};
-    use crate::random::Random;
-    use crate::sending_stream::sent_and_ended;
+    use crate::chance::lists::{alter, random_bits};
+    use crate::chance::random::Random;
+    use crate::model::sending_stream::sent_and_ended;
 
     /// Random blocks of the kinds that the letters name: s for speech, f for FACCH.
     fn blocks(seed: u64, kinds: &str) -> Vec<Vec<u8>> {

@@ -1,7 +1,7 @@
 //! Lists of bits as they may be received: random, altered, or made to tie.
 
-use crate::coding::convolve;
-use crate::random::Random;
+use crate::chance::random::Random;
+use crate::model::coding::convolve;
 
 /// Random bits.
 pub fn random_bits(random: &mut Random, length: usize) -> Vec<u8> {

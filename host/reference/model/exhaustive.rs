@@ -46,9 +46,9 @@ pub fn bits_of(number: u64, n: usize) -> Vec<u8> {
 #[cfg(test)]
 mod tests {
     use super::*;
-    use crate::coding::convolve;
-    use crate::lists::random_bits;
-    use crate::random::Random;
+    use crate::chance::lists::random_bits;
+    use crate::chance::random::Random;
+    use crate::model::coding::convolve;
 
     #[test]
     fn bit_k_of_the_number_is_u_of_k() {
