@@ -14,8 +14,9 @@ mod model;
 
 use chance::lists::{self, random_bits};
 use chance::random::Random;
-use model::receiving::{Received, Refusal};
-use model::{coding, exhaustive, receiving};
+use model::bits::{add, bits_of};
+use model::channel::{Channel, Received, ACCESS, CONTROL, NO_IDENTITY};
+use model::coding::convolve;
 
 /// The calls of desk.h, on slices.
 mod library {
@@ -50,62 +51,76 @@ mod library {
     }
 }
 
-/// One of the four calls, of the library and of the reference; control looks at no identity.
+/// One of the four calls: a channel of the reference in one direction, and the library's function;
+/// control looks at no identity.
 struct Call {
     name: &'static str,
-    reads: usize,
-    writes: usize,
-    has_identity: bool,
+    channel: Channel,
+    sends: bool,
     library: fn(u8, &[u8], &mut [u8]) -> u32,
-    reference: fn(u8, &[u8]) -> Received,
-    /// A random block that is sent or received well, and the identity for it.
-    good_input: fn(&mut Random) -> (u8, Vec<u8>),
 }
 
 const SEND_ACCESS: Call = Call {
     name: "send access",
-    reads: 8,
-    writes: 36,
-    has_identity: true,
+    channel: ACCESS,
+    sends: true,
     library: library::send_access,
-    reference: |identity, d| sent(coding::access(u16::from(identity), d)),
-    good_input: |random| (any_identity(random), random_bits(random, 8)),
 };
 const RECEIVE_ACCESS: Call = Call {
     name: "receive access",
-    reads: 36,
-    writes: 8,
-    has_identity: true,
+    channel: ACCESS,
+    sends: false,
     library: library::receive_access,
-    reference: |identity, e| receiving::access(u16::from(identity), e),
-    good_input: |random| {
-        let (identity, _, e) = access_block(random);
-        (identity, e)
-    },
 };
 const SEND_CONTROL: Call = Call {
     name: "send control",
-    reads: 184,
-    writes: 456,
-    has_identity: false,
+    channel: CONTROL,
+    sends: true,
     library: |_, d, c| library::send_control(d, c),
-    reference: |_, d| sent(coding::control(d)),
-    good_input: |random| (any_identity(random), random_bits(random, 184)),
 };
 const RECEIVE_CONTROL: Call = Call {
     name: "receive control",
-    reads: 456,
-    writes: 184,
-    has_identity: false,
+    channel: CONTROL,
+    sends: false,
     library: |_, c, d| library::receive_control(c, d),
-    reference: |_, c| receiving::control(c),
-    good_input: |random| (any_identity(random), control_block(random).1),
 };
 const CALLS: [Call; 4] = [SEND_ACCESS, RECEIVE_ACCESS, SEND_CONTROL, RECEIVE_CONTROL];
 
-/// What the reference sends, as if it were received: a send counts nothing.
-fn sent(result: Result<Vec<u8>, u8>) -> Received {
-    result.map(|bits| (0, bits)).map_err(Refusal::from)
+impl Call {
+    /// How many bytes are read, and how many are written.
+    fn lengths(&self) -> (usize, usize) {
+        let Channel { reads, writes, .. } = self.channel;
+        if self.sends {
+            (reads, writes)
+        } else {
+            (writes, reads)
+        }
+    }
+
+    fn reads(&self) -> usize {
+        self.lengths().0
+    }
+
+    fn writes(&self) -> usize {
+        self.lengths().1
+    }
+
+    /// What the reference makes of an input; a send counts nothing.
+    fn reference(&self, identity: u8, input: &[u8]) -> Received {
+        let identity = u16::from(identity);
+        if self.sends {
+            let sent = self.channel.encode(identity, input)?;
+            Ok((0, sent))
+        } else {
+            self.channel.decode(identity, input)
+        }
+    }
+
+    /// A random block that is sent or received well, and the identity for it.
+    fn good_input(&self, random: &mut Random) -> (u8, Vec<u8>) {
+        let (identity, d, sent) = block(random, &self.channel);
+        (identity, if self.sends { d } else { sent })
+    }
 }
 
 /// The number and the count in an answer, and every byte that the lent buffer is left with.
@@ -159,12 +174,12 @@ fn outcome(call: &Call, identity: u8, input: &[u8], before: &[u8]) -> Outcome {
 
 /// What the reference makes of them.
 fn expected(call: &Call, identity: u8, input: &[u8], before: &[u8]) -> Outcome {
-    if before.len() != call.writes {
+    if before.len() != call.writes() {
         return refused(1, 0, before);
     }
-    match (call.reference)(identity, input) {
+    match call.reference(identity, input) {
         Ok((count, bits)) => good(count, &bits),
-        Err(refusal) => refused(refusal.number, refusal.count.unwrap_or(0), before),
+        Err(refusal) => refused(refusal.number(), refusal.count().unwrap_or(0), before),
     }
 }
 
@@ -175,14 +190,14 @@ fn noise(random: &mut Random, length: usize) -> Vec<u8> {
 
 /// The library makes this of an input, whatever non-bits the buffer holds before.
 fn gives(random: &mut Random, call: &Call, identity: u8, input: &[u8], count: usize, d: &[u8]) {
-    let before = noise(random, call.writes);
+    let before = noise(random, call.writes());
     let got = outcome(call, identity, input, &before);
     assert_eq!(got, good(count, d), "{} {}", call.name, identity);
 }
 
 /// The library refuses an input and leaves the buffer.
 fn refuses(random: &mut Random, call: &Call, identity: u8, input: &[u8], number: u8, count: usize) {
-    let before = noise(random, call.writes);
+    let before = noise(random, call.writes());
     let got = outcome(call, identity, input, &before);
     let want = refused(number, count, &before);
     assert_eq!(got, want, "{} {} {:?}", call.name, identity, input);
@@ -190,7 +205,7 @@ fn refuses(random: &mut Random, call: &Call, identity: u8, input: &[u8], number:
 
 /// The library and the reference make the same of an input.
 fn agrees(random: &mut Random, call: &Call, identity: u8, input: &[u8]) {
-    let before = noise(random, call.writes);
+    let before = noise(random, call.writes());
     assert_eq!(
         outcome(call, identity, input, &before),
         expected(call, identity, input, &before),
@@ -206,18 +221,22 @@ fn any_identity(random: &mut Random) -> u8 {
     random.below(64) as u8
 }
 
+/// A random block of a channel: an identity, its bits, the bits that are sent.
+fn block(random: &mut Random, channel: &Channel) -> (u8, Vec<u8>, Vec<u8>) {
+    let identity = any_identity(random);
+    let d = random_bits(random, channel.reads);
+    let sent = channel.encode(u16::from(identity), &d).unwrap();
+    (identity, d, sent)
+}
+
 /// A random access block: its identity, its bits, its coded bits.
 fn access_block(random: &mut Random) -> (u8, Vec<u8>, Vec<u8>) {
-    let identity = any_identity(random);
-    let d = random_bits(random, 8);
-    let e = coding::access(u16::from(identity), &d).unwrap();
-    (identity, d, e)
+    block(random, &ACCESS)
 }
 
 /// A random control block: its bits, its coded bits.
 fn control_block(random: &mut Random) -> (Vec<u8>, Vec<u8>) {
-    let d = random_bits(random, 184);
-    let c = coding::control(&d).unwrap();
+    let (_, d, c) = block(random, &CONTROL);
     (d, c)
 }
 
@@ -248,8 +267,8 @@ fn every_access_block_is_sent_and_comes_back() {
     let mut random = Random::new(101);
     for identity in 0..64 {
         for number in 0..256 {
-            let d = exhaustive::bits_of(number, 8);
-            let e = coding::access(u16::from(identity), &d).unwrap();
+            let d = bits_of(number, 8);
+            let e = ACCESS.encode(u16::from(identity), &d).unwrap();
             gives(&mut random, &SEND_ACCESS, identity, &d, 0, &e);
             gives(&mut random, &RECEIVE_ACCESS, identity, &e, 0, &d);
         }
@@ -264,7 +283,7 @@ fn control_blocks_are_sent_and_come_back() {
     blocks.extend([vec![0; 184], vec![1; 184]]);
     blocks.extend((0..600).map(|_| random_bits(&mut random, 184)));
     for d in blocks {
-        let c = coding::control(&d).unwrap();
+        let c = CONTROL.encode(NO_IDENTITY, &d).unwrap();
         gives(&mut random, &SEND_CONTROL, 0, &d, 0, &c);
         gives(&mut random, &RECEIVE_CONTROL, 0, &c, 0, &d);
     }
@@ -389,7 +408,7 @@ fn each_control_parity_bit_counts() {
     let mut random = Random::new(111);
     for k in 184..224 {
         let (_, mut c) = control_block(&mut random);
-        lists::add(&mut c, &coding::convolve(&turned(&[0; 228], &[k])));
+        add(&mut c, &convolve(&turned(&[0; 228], &[k])));
         refuses(&mut random, &RECEIVE_CONTROL, 0, &c, 8, 0);
     }
 }
@@ -415,11 +434,11 @@ fn refuses_lengths(random: &mut Random, call: &Call, reads: usize, writes: usize
 fn wrong_lengths_are_refused() {
     let mut random = Random::new(112);
     for call in &CALLS {
-        for reads in wrong_lengths(call.reads) {
-            refuses_lengths(&mut random, call, reads, call.writes);
+        for reads in wrong_lengths(call.reads()) {
+            refuses_lengths(&mut random, call, reads, call.writes());
         }
-        for writes in wrong_lengths(call.writes) {
-            refuses_lengths(&mut random, call, call.reads, writes);
+        for writes in wrong_lengths(call.writes()) {
+            refuses_lengths(&mut random, call, call.reads(), writes);
         }
     }
 }
@@ -428,12 +447,12 @@ fn wrong_lengths_are_refused() {
 fn two_wrong_lengths_are_refused() {
     let mut random = Random::new(113);
     for call in &CALLS {
-        refuses_lengths(&mut random, call, call.writes, call.reads);
-        for reads in wrong_lengths(call.reads) {
+        refuses_lengths(&mut random, call, call.writes(), call.reads());
+        for reads in wrong_lengths(call.reads()) {
             // A sum of both that looks right, the same length twice, and any other.
-            let sum = (call.reads + call.writes).saturating_sub(reads);
+            let sum = (call.reads() + call.writes()).saturating_sub(reads);
             for writes in [sum, reads, random.below(601)] {
-                if writes != call.writes {
+                if writes != call.writes() {
                     refuses_lengths(&mut random, call, reads, writes);
                 }
             }
@@ -445,10 +464,10 @@ fn two_wrong_lengths_are_refused() {
 fn a_byte_over_1_is_refused_at_each_index() {
     let mut random = Random::new(114);
     for call in &CALLS {
-        for k in 0..call.reads {
+        for k in 0..call.reads() {
             let any = 2 + random.below(254) as u8;
             for wrong in [2, 3, 127, 128, 129, 254, 255, any] {
-                let mut input = random_bits(&mut random, call.reads);
+                let mut input = random_bits(&mut random, call.reads());
                 input[k] = wrong;
                 let identity = random.below(256) as u8;
                 refuses(&mut random, call, identity, &input, 2, 0);
@@ -462,11 +481,18 @@ fn every_byte_over_1_is_refused() {
     let mut random = Random::new(115);
     for call in &CALLS {
         for wrong in 2..=255 {
-            let mut input = random_bits(&mut random, call.reads);
-            input[random.below(call.reads)] = wrong;
+            let mut input = random_bits(&mut random, call.reads());
+            input[random.below(call.reads())] = wrong;
             let identity = any_identity(&mut random);
             refuses(&mut random, call, identity, &input, 2, 0);
-            refuses(&mut random, call, identity, &vec![wrong; call.reads], 2, 0);
+            refuses(
+                &mut random,
+                call,
+                identity,
+                &vec![wrong; call.reads()],
+                2,
+                0,
+            );
         }
     }
 }
@@ -512,12 +538,12 @@ fn of_several_refusals_the_lowest_is_given() {
     for call in &CALLS {
         for ways in 0..16 {
             let [read, lent, bits, high] = [1, 2, 4, 8].map(|way| ways & way != 0);
-            let (own, mut input) = (call.good_input)(&mut random);
+            let (own, mut input) = call.good_input(&mut random);
             spoil(&mut random, &mut input, read, bits);
-            let before = noise(&mut random, call.writes + usize::from(lent));
+            let before = noise(&mut random, call.writes() + usize::from(lent));
             let identity = own + 64 * u8::from(high);
             let got = outcome(call, identity, &input, &before);
-            match lowest(read || lent, bits, high && call.has_identity) {
+            match lowest(read || lent, bits, high && call.channel.has_identity) {
                 Some(number) => assert_eq!(got, refused(number, 0, &before), "{}", call.name),
                 None => assert_eq!(got, expected(call, identity, &input, &before)),
             }
@@ -529,10 +555,10 @@ fn of_several_refusals_the_lowest_is_given() {
 fn a_good_answer_writes_every_byte_whatever_stood_there() {
     let mut random = Random::new(118);
     for call in &CALLS {
-        let (identity, input) = (call.good_input)(&mut random);
-        let (_, bits) = (call.reference)(identity, &input).unwrap();
+        let (identity, input) = call.good_input(&mut random);
+        let (_, bits) = call.reference(identity, &input).unwrap();
         for fill in 0..=255 {
-            let before = vec![fill; call.writes];
+            let before = vec![fill; call.writes()];
             let got = outcome(call, identity, &input, &before);
             assert_eq!(got, good(0, &bits), "{} over {}", call.name, fill);
         }
@@ -544,12 +570,12 @@ fn a_call_keeps_nothing_for_the_next() {
     let mut random = Random::new(119);
     for _ in 0..100 {
         let call = &CALLS[random.below(4)];
-        let (identity, input) = (call.good_input)(&mut random);
-        let first = outcome(call, identity, &input, &vec![2; call.writes]);
+        let (identity, input) = call.good_input(&mut random);
+        let first = outcome(call, identity, &input, &vec![2; call.writes()]);
         let between = &CALLS[random.below(4)];
-        let wrong = noise(&mut random, between.reads);
+        let wrong = noise(&mut random, between.reads());
         refuses(&mut random, between, 255, &wrong, 2, 0);
-        let again = outcome(call, identity, &input, &vec![255; call.writes]);
+        let again = outcome(call, identity, &input, &vec![255; call.writes()]);
         assert_eq!(first, again, "{}", call.name);
     }
 }
@@ -586,7 +612,7 @@ fn handbook_colour_bits_under_identity_0() {
     let zeros = [&[0; 8][..], &[1, 1, 1, 1, 1, 1], &[0; 4]].concat();
     let last_one = [&[0, 0, 0, 0, 0, 0, 0, 1][..], &[0, 1, 0, 0, 0, 0], &[0; 4]].concat();
     for u in [zeros, last_one] {
-        let e = coding::convolve(&u);
+        let e = convolve(&u);
         gives(&mut random, &SEND_ACCESS, 0, &u[..8], 0, &e);
         gives(&mut random, &RECEIVE_ACCESS, 0, &e, 0, &u[..8]);
     }
@@ -595,7 +621,7 @@ fn handbook_colour_bits_under_identity_0() {
 #[test]
 fn handbook_identity_63_passes_and_64_is_refused() {
     let mut random = Random::new(124);
-    let e = coding::access(63, &[1; 8]).unwrap();
+    let e = ACCESS.encode(63, &[1; 8]).unwrap();
     gives(&mut random, &SEND_ACCESS, 63, &[1; 8], 0, &e);
     gives(&mut random, &RECEIVE_ACCESS, 63, &e, 0, &[1; 8]);
     refuses(&mut random, &SEND_ACCESS, 64, &[1; 8], 3, 0);

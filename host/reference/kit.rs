@@ -1,27 +1,18 @@
 //! The kit's line protocol: a word and its arguments, parted by single spaces. One sending and one
 //! receiving stream live through all of the lines.
 
-use crate::model::coding;
-use crate::model::receiving::{self, Received, Refusal};
-use crate::model::receiving_stream::{Kind, Receiver, Taken};
+use crate::model::channel::{self, Received, NO_IDENTITY};
+use crate::model::receiving_stream::{Receiver, Taken};
+use crate::model::refusal::Refusal;
 use crate::model::sending_stream::Sender;
-use crate::model::trellis;
-use crate::page::written;
+use crate::model::trellis::{self, View};
+use crate::text::{bits, refused, told, written};
 
 /// A line over this many bytes is not understood.
 const LONGEST_LINE: usize = 1000;
 
 /// The answer to a line that is not understood.
 const NOT_UNDERSTOOD: &str = "?";
-
-/// '0' to '9' are the bytes 0 to 9, any other character is the byte 255.
-fn bits(characters: &[u8]) -> Vec<u8> {
-    let byte = |&character: &u8| match character {
-        b'0'..=b'9' => character - b'0',
-        _ => 255,
-    };
-    characters.iter().map(byte).collect()
-}
 
 /// A number is one to five decimal digits, at most 65535.
 fn number(characters: &[u8]) -> Option<u16> {
@@ -38,78 +29,48 @@ fn number(characters: &[u8]) -> Option<u16> {
     u16::try_from(value).ok()
 }
 
-/// The sixteen numbers of the view, parted by single spaces, or "refused" and the number.
-fn viewed(received: &[u8]) -> String {
-    match trellis::view(received) {
-        Ok(view) => view.map(|number| number.to_string()).join(" "),
-        Err(refusal) => format!("refused {}", refusal),
-    }
+/// The bits that are sent.
+fn sent(answer: Result<Vec<u8>, Refusal>) -> String {
+    told(answer, |bits| written(&bits))
 }
 
-/// The count and the bits; or "refused", the number, and the count if it is returned besides.
-fn decoded(result: Received) -> String {
-    match result {
-        Ok((count, d)) => format!("{} {}", count, written(Ok(d))),
-        Err(refusal) => match refusal.count {
-            Some(count) => format!("refused {} {}", refusal.number, count),
-            None => format!("refused {}", refusal.number),
-        },
-    }
+/// The count and the bits.
+fn received(answer: Received) -> String {
+    told(answer, |(count, d)| format!("{} {}", count, written(&d)))
+}
+
+/// The sixteen numbers of the view, parted by single spaces.
+fn viewed(answer: Result<View, Refusal>) -> String {
+    told(answer, |view| {
+        view.map(|number| number.to_string()).join(" ")
+    })
 }
 
 /// "waiting"; or the kind, n, the count and the bits; or "refused" and what is returned besides.
-fn taken(result: Result<Taken, u8>) -> String {
-    match result {
-        Ok(Taken::Waiting) => "waiting".to_string(),
-        Ok(Taken::Good { n, kind, count, d }) => {
-            format!("{} {} {} {}", kind_word(kind), n, count, written(Ok(d)))
+fn taken(answer: Result<Taken, Refusal>) -> String {
+    told(answer, |taken| match taken {
+        Taken::Waiting => "waiting".to_string(),
+        Taken::Good { n, kind, count, d } => {
+            format!("{} {} {} {}", kind.word(), n, count, written(&d))
         }
-        Ok(Taken::Bad { n, refusal }) => found_bad(n, refusal),
-        Err(refusal) => format!("refused {}", refusal),
-    }
+        Taken::Bad { n, refusal } => refused(refusal, Some(n)),
+    })
 }
 
-/// The word for a kind.
-fn kind_word(kind: Kind) -> &'static str {
-    match kind {
-        Kind::Speech => "speech",
-        Kind::Facch => "facch",
-    }
-}
-
-/// "refused", the number, n, and the count if it is returned besides.
-fn found_bad(n: usize, refusal: Refusal) -> String {
-    match refusal.count {
-        Some(count) => format!("refused {} {} {}", refusal.number, n, count),
-        None => format!("refused {} {}", refusal.number, n),
-    }
-}
-
-/// The answer of a sending verb.
-fn sending(fields: &[&[u8]]) -> Option<String> {
-    match fields {
-        [b"speech", d] => Some(written(coding::speech(&bits(d)))),
-        [b"control", d] => Some(written(coding::control(&bits(d)))),
-        [b"sacch", d] => Some(written(coding::sacch(&bits(d)))),
-        [b"access", identity, d] => Some(written(coding::access(number(identity)?, &bits(d)))),
-        [b"sch", d] => Some(written(coding::sch(&bits(d)))),
-        _ => None,
-    }
-}
-
-/// The answer of the trellis view or of a receiving verb.
-fn receiving(fields: &[&[u8]]) -> Option<String> {
-    match fields {
-        // Without an argument it is the view of nothing.
-        [b"trellis"] => Some(viewed(&[])),
-        [b"trellis", c] => Some(viewed(&bits(c))),
-        [b"speech?", c] => Some(decoded(receiving::speech(&bits(c)))),
-        [b"control?", c] => Some(decoded(receiving::control(&bits(c)))),
-        [b"sacch?", e] => Some(decoded(receiving::sacch(&bits(e)))),
-        [b"access?", identity, c] => Some(decoded(receiving::access(number(identity)?, &bits(c)))),
-        [b"sch?", c] => Some(decoded(receiving::sch(&bits(c)))),
-        _ => None,
-    }
+/// The answer of a channel's two verbs: its name sends a block, with a question mark behind it a
+/// block is received. The identity comes first where the channel has one.
+fn of_channel(word: &[u8], arguments: &[&[u8]]) -> Option<String> {
+    let asked = word.strip_suffix(b"?");
+    let channel = channel::named(asked.unwrap_or(word))?;
+    let (identity, list) = match arguments {
+        [list] if !channel.has_identity => (NO_IDENTITY, bits(list)),
+        [identity, list] if channel.has_identity => (number(identity)?, bits(list)),
+        _ => return None,
+    };
+    Some(match asked {
+        Some(_) => received(channel.decode(identity, &list)),
+        None => sent(channel.encode(identity, &list)),
+    })
 }
 
 /// The kit: its sending and its receiving stream.
@@ -137,25 +98,23 @@ impl Kit {
             .unwrap_or_else(|| NOT_UNDERSTOOD.to_string())
     }
 
-    /// The answer to a word and its arguments; nothing if they are not understood.
+    /// The answer to a word and its arguments, one row for each verb; nothing if they are not
+    /// understood.
     fn answer_fields(&mut self, fields: &[&[u8]]) -> Option<String> {
-        sending(fields)
-            .or_else(|| receiving(fields))
-            .or_else(|| self.streaming(fields))
-    }
-
-    /// The answer of a verb that calls a stream.
-    fn streaming(&mut self, fields: &[&[u8]]) -> Option<String> {
-        match fields {
-            [b"send", d] => Some(written(self.sender.send(&bits(d)))),
-            [b"end"] => Some(written(self.sender.end())),
-            [b"take", burst, e] => Some(taken(self.receiver.take(number(burst)?, &bits(e)))),
+        Some(match fields {
+            // Without an argument it is the view of nothing.
+            [b"trellis"] => viewed(trellis::view(&[])),
+            [b"trellis", c] => viewed(trellis::view(&bits(c))),
+            [b"send", d] => sent(self.sender.send(&bits(d))),
+            [b"end"] => sent(self.sender.end()),
+            [b"take", burst, e] => taken(self.receiver.take(number(burst)?, &bits(e))),
             [b"fresh"] => {
                 *self = Kit::fresh();
-                Some("fresh".to_string())
+                "fresh".to_string()
             }
-            _ => None,
-        }
+            [word, arguments @ ..] => of_channel(word, arguments)?,
+            [] => return None,
+        })
     }
 }
 
@@ -175,6 +134,7 @@ pub fn answers(lines: &[Vec<u8>]) -> Vec<String> {
 #[cfg(test)]
 mod tests {
     use super::*;
+    use crate::model::channel::{Channel, CHANNELS};
     use crate::page;
 
     /// The answer to a line of text.
@@ -203,16 +163,18 @@ mod tests {
         assert_eq!(answer_to("access 63 00000000"), "0".repeat(36));
     }
 
+    /// The words with which a channel's lines begin: its verb, and an identity where it has one.
+    fn words_of(channel: &Channel, mark: &str) -> String {
+        let identity = if channel.has_identity { " 41" } else { "" };
+        format!("{}{}{}", channel.name, mark, identity)
+    }
+
     #[test]
-    fn every_verb_answers_its_length() {
-        for (word, reads, writes) in [
-            ("speech", 260, 456),
-            ("control", 184, 456),
-            ("sacch", 184, 464),
-            ("sch", 25, 78),
-        ] {
-            let answer = answer_to(&format!("{} {}", word, "1".repeat(reads)));
-            assert_eq!(answer.len(), writes);
+    fn every_channel_answers_its_length() {
+        for channel in CHANNELS {
+            let words = words_of(&channel, "");
+            let answer = answer_to(&format!("{} {}", words, "1".repeat(channel.reads)));
+            assert_eq!(answer.len(), channel.writes);
             assert!(answer.chars().all(|bit| bit == '0' || bit == '1'));
         }
     }
@@ -374,20 +336,30 @@ mod tests {
 
     #[test]
     fn what_is_sent_is_received() {
-        for (word, length) in [
-            ("speech", 260),
-            ("control", 184),
-            ("sacch", 184),
-            ("sch", 25),
-        ] {
-            let d = "0110100".repeat(38)[..length].to_string();
-            let sent = answer_to(&format!("{} {}", word, d));
-            let answer = answer_to(&format!("{}? {}", word, sent));
+        for channel in CHANNELS {
+            let d = "0110100".repeat(38)[..channel.reads].to_string();
+            let sent = answer_to(&format!("{} {}", words_of(&channel, ""), d));
+            let answer = answer_to(&format!("{} {}", words_of(&channel, "?"), sent));
             assert_eq!(answer, format!("0 {}", d));
         }
         let sent = answer_to("access 00041 01101001");
         assert_eq!(answer_to(&format!("access? 41 {}", sent)), "0 01101001");
         assert_eq!(answer_to(&format!("access? 40 {}", sent)), "refused 8 0");
+    }
+
+    #[test]
+    fn an_identity_is_understood_where_the_channel_has_one_alone() {
+        for channel in CHANNELS {
+            for (mark, length) in [("", channel.reads), ("?", channel.writes)] {
+                let word = format!("{}{}", channel.name, mark);
+                let (without, with) = (
+                    answer_to(&format!("{} {}", word, "0".repeat(length))),
+                    answer_to(&format!("{} 63 {}", word, "0".repeat(length))),
+                );
+                assert_eq!(without == "?", channel.has_identity, "{}", word);
+                assert_eq!(with == "?", !channel.has_identity, "{}", word);
+            }
+        }
     }
 
     #[test]

@@ -21,6 +21,7 @@ mod makers;
 mod model;
 mod page;
 mod sheet;
+mod text;
 
 use crate::kit::Kit;
 use crate::makers::{

@@ -12,14 +12,6 @@ fn lines_of(page: &[u8]) -> Vec<&[u8]> {
     lines
 }
 
-/// The bits in one run, or "refused" and the number.
-pub fn written(result: Result<Vec<u8>, u8>) -> String {
-    match result {
-        Ok(bits) => bits.iter().map(|bit| bit.to_string()).collect(),
-        Err(refusal) => format!("refused {}", refusal),
-    }
-}
-
 /// The answers to a page, one line for each of its lines.
 pub fn answers(page: &[u8], mut answer: impl FnMut(&[u8]) -> String) -> Vec<u8> {
     let mut answers = Vec::new();
@@ -75,12 +67,6 @@ mod tests {
     #[test]
     fn other_line_ends_are_part_of_the_line() {
         assert_eq!(lines_of(b"a\r\nb\0c\n"), [&b"a\r"[..], b"b\0c"]);
-    }
-
-    #[test]
-    fn bits_and_refusals_are_written() {
-        assert_eq!(written(Ok(vec![0, 1, 1])), "011");
-        assert_eq!(written(Err(3)), "refused 3");
     }
 
     #[test]

@@ -1,21 +1,11 @@
 //! The access sheet: two decimal digits (identity), a space, eight characters d(0)..d(7).
 
-use crate::model::coding;
-use crate::page::written;
+use crate::model::channel::ACCESS;
+use crate::text::{bits, told, written};
 
 /// The length, the two digits and the space are as a request has them.
 fn is_request(line: &[u8]) -> bool {
     line.len() == 11 && line[0].is_ascii_digit() && line[1].is_ascii_digit() && line[2] == b' '
-}
-
-/// '0' and '1' are bits; any other character is a byte that is none.
-fn bits(characters: &[u8]) -> Vec<u8> {
-    let byte = |&character: &u8| match character {
-        b'0' => 0,
-        b'1' => 1,
-        _ => 255,
-    };
-    characters.iter().map(byte).collect()
 }
 
 /// The answer to one line, without its newline: the two digits, a space, and the 36 bits
@@ -26,8 +16,8 @@ pub fn answer(line: &[u8]) -> String {
     }
     let (tens, units) = (line[0] - b'0', line[1] - b'0');
     let identity = u16::from(10 * tens + units);
-    let e = coding::access(identity, &bits(&line[3..]));
-    format!("{}{} {}", tens, units, written(e))
+    let answer = ACCESS.encode(identity, &bits(&line[3..]));
+    format!("{}{} {}", tens, units, told(answer, |e| written(&e)))
 }
 
 #[cfg(test)]

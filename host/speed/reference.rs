@@ -9,56 +9,14 @@
 #[path = "../reference/model/mod.rs"]
 mod model;
 
-use model::receiving::Received;
+use model::channel::{self, Channel};
 use model::receiving_stream::{Receiver, Taken};
 use model::sending_stream::{sent_and_ended, Sender};
-use model::{coding, receiving};
 use std::process::ExitCode;
 use std::slice::from_ref;
 
-/// The base station of access.
+/// The base station of access; other channels look at no identity.
 const IDENTITY: u16 = 7;
-
-/// A way of coding: how many bits it reads, and its two directions.
-struct Coding {
-    name: &'static str,
-    reads: usize,
-    encode: fn(&[u8]) -> Result<Vec<u8>, u8>,
-    decode: fn(&[u8]) -> Received,
-}
-
-const CODINGS: [Coding; 5] = [
-    Coding {
-        name: "speech",
-        reads: 260,
-        encode: coding::speech,
-        decode: receiving::speech,
-    },
-    Coding {
-        name: "control",
-        reads: 184,
-        encode: coding::control,
-        decode: receiving::control,
-    },
-    Coding {
-        name: "sacch",
-        reads: 184,
-        encode: coding::sacch,
-        decode: receiving::sacch,
-    },
-    Coding {
-        name: "access",
-        reads: 8,
-        encode: |d| coding::access(IDENTITY, d),
-        decode: |e| receiving::access(IDENTITY, e),
-    },
-    Coding {
-        name: "sch",
-        reads: 25,
-        encode: coding::sch,
-        decode: receiving::sch,
-    },
-];
 
 /// Bits in no order that the coding knows.
 fn bits(length: usize) -> Vec<u8> {
@@ -76,16 +34,16 @@ fn repeat<T>(calls: usize, mut call: impl FnMut() -> T) -> T {
 }
 
 /// Whether a block is encoded so many times.
-fn encode(coding: &Coding, calls: usize) -> bool {
-    let d = bits(coding.reads);
-    repeat(calls, || (coding.encode)(&d)).is_ok()
+fn encode(channel: &Channel, calls: usize) -> bool {
+    let d = bits(channel.reads);
+    repeat(calls, || channel.encode(IDENTITY, &d)).is_ok()
 }
 
 /// Whether a block comes back, decoded so many times.
-fn decode(coding: &Coding, calls: usize) -> bool {
-    let d = bits(coding.reads);
-    let c = (coding.encode)(&d).unwrap();
-    repeat(calls, || (coding.decode)(&c)) == Ok((0, d))
+fn decode(channel: &Channel, calls: usize) -> bool {
+    let d = bits(channel.reads);
+    let sent = channel.encode(IDENTITY, &d).unwrap();
+    repeat(calls, || channel.decode(IDENTITY, &sent)) == Ok((0, d))
 }
 
 /// Whether a stream sends so many blocks.
@@ -112,10 +70,9 @@ fn take(calls: usize, length: usize) -> bool {
 /// Whether there is an entry of this name, and its calls go well.
 fn run(name: &str, calls: usize) -> bool {
     let (kind, call) = name.split_once('-').unwrap_or_default();
-    let coding = CODINGS.iter().find(|coding| coding.name == kind);
-    match (kind, call, coding) {
-        (_, "encode", Some(coding)) => encode(coding, calls),
-        (_, "decode", Some(coding)) => decode(coding, calls),
+    match (kind, call, channel::named(kind.as_bytes())) {
+        (_, "encode", Some(channel)) => encode(channel, calls),
+        (_, "decode", Some(channel)) => decode(channel, calls),
         ("send", "speech", _) => send(calls, 260),
         ("send", "facch", _) => send(calls, 184),
         ("take", "speech", _) => take(calls, 260),

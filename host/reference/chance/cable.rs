@@ -2,7 +2,9 @@
 
 use crate::chance::lists::{self, random_bits};
 use crate::chance::random::Random;
-use crate::model::diagonal::{self, BURST};
+use crate::model::bits::inverted;
+use crate::model::burst::Interleaving::Diagonal;
+use crate::model::burst::BURST;
 
 /// The cable of a lesson: quiet and noisy stretches, altered flags, bad bursts.
 pub fn lesson(random: &mut Random, bursts: &mut [Vec<u8>]) {
@@ -49,9 +51,9 @@ fn blocks(bursts: &[Vec<u8>]) -> usize {
 
 /// Changes the coded bits of block n, and nothing else.
 fn change_bits(bursts: &mut [Vec<u8>], n: usize, change: impl FnOnce(&mut [u8])) {
-    let mut c = diagonal::bits(bursts, n);
+    let mut c = Diagonal(n).bits(bursts);
     change(&mut c);
-    diagonal::put_bits(bursts, n, &c);
+    Diagonal(n).put_bits(bursts, &c);
 }
 
 /// 0 to 3 altered bits, or only bits that are unprotected in speech.
@@ -89,21 +91,17 @@ fn altered_flags(random: &mut Random) -> usize {
 
 /// Alters so many of the eight flags of block n.
 fn alter_flags(random: &mut Random, bursts: &mut [Vec<u8>], n: usize, number: usize) {
-    let mut flags = diagonal::flags(bursts, n);
+    let mut flags = Diagonal(n).flags(bursts);
     lists::alter(random, &mut flags, number);
-    diagonal::put_flags(bursts, n, &flags);
+    Diagonal(n).put_flags(bursts, &flags);
 }
 
 /// A single burst inverted, with its flags or without, zeroed, all ones, random or the one before.
 fn spoil_burst(random: &mut Random, bursts: &mut [Vec<u8>], burst: usize) {
-    let inverted = bursts[burst].iter().map(|bit| 1 - bit);
+    let e = &bursts[burst];
     bursts[burst] = match random.below(7) {
-        0 | 1 => inverted.collect(),
-        2 => {
-            let mut e: Vec<u8> = inverted.collect();
-            e[57..=58].copy_from_slice(&bursts[burst][57..=58]);
-            e
-        }
+        0 | 1 => inverted(e),
+        2 => [&inverted(&e[..57]), &e[57..=58], &inverted(&e[59..])].concat(),
         3 => vec![0; BURST],
         4 => vec![1; BURST],
         5 => random_bits(random, BURST),
@@ -122,15 +120,11 @@ fn silence(random: &mut Random, bursts: &mut [Vec<u8>], first: usize) {
 #[cfg(test)]
 mod tests {
     use super::*;
+    use crate::model::bits::ones;
 
     /// The bursts of so many blocks, all zeros.
     fn zeros(blocks: usize) -> Vec<Vec<u8>> {
         vec![vec![0; BURST]; 4 * blocks + 4]
-    }
-
-    /// The number of ones.
-    fn ones(bits: &[u8]) -> usize {
-        bits.iter().filter(|&&bit| bit == 1).count()
     }
 
     #[test]
@@ -159,11 +153,11 @@ mod tests {
             let mut bursts = zeros(3);
             change_bits(&mut bursts, 1, |c| noisy_bits(&mut random, c));
             alter_flags(&mut random, &mut bursts, 1, number);
-            assert!(ones(&diagonal::bits(&bursts, 1)) >= 2);
-            assert_eq!(ones(&diagonal::flags(&bursts, 1)), number);
+            assert!(ones(&Diagonal(1).bits(&bursts)) >= 2);
+            assert_eq!(ones(&Diagonal(1).flags(&bursts)), number);
             for n in [0, 2] {
-                assert_eq!(ones(&diagonal::bits(&bursts, n)), 0);
-                assert_eq!(ones(&diagonal::flags(&bursts, n)), 0);
+                assert_eq!(ones(&Diagonal(n).bits(&bursts)), 0);
+                assert_eq!(ones(&Diagonal(n).flags(&bursts)), 0);
             }
         }
     }
@@ -210,8 +204,8 @@ mod tests {
         let mut bursts = zeros(2000);
         light(&mut Random::new(76), &mut bursts);
         let untouched = (0..2000)
-            .filter(|&n| ones(&diagonal::bits(&bursts, n)) == 0)
-            .filter(|&n| ones(&diagonal::flags(&bursts, n)) == 0)
+            .filter(|&n| ones(&Diagonal(n).bits(&bursts)) == 0)
+            .filter(|&n| ones(&Diagonal(n).flags(&bursts)) == 0)
             .count();
         assert!(untouched > 1500 && untouched < 1900, "{}", untouched);
     }

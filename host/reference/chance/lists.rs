@@ -1,18 +1,12 @@
 //! Lists of bits as they may be received: random, altered, or made to tie.
 
 use crate::chance::random::Random;
+use crate::model::bits::{ones, ones_at};
 use crate::model::coding::convolve;
 
 /// Random bits.
 pub fn random_bits(random: &mut Random, length: usize) -> Vec<u8> {
     (0..length).map(|_| random.below(2) as u8).collect()
-}
-
-/// Adds bits to the beginning of a list, modulo 2.
-pub fn add(list: &mut [u8], bits: &[u8]) {
-    for k in 0..bits.len() {
-        list[k] = (list[k] + bits[k]) % 2;
-    }
 }
 
 /// So many of the indices, each at most once.
@@ -59,7 +53,7 @@ fn short_difference(random: &mut Random, n: usize) -> Vec<u8> {
     }
     u[first] = 1;
     u[last] = 1;
-    if u.iter().filter(|&&bit| bit == 1).count() % 2 == 1 {
+    if ones(&u) % 2 == 1 {
         u[first + 1] = 1 - u[first + 1];
     }
     u
@@ -69,7 +63,7 @@ fn short_difference(random: &mut Random, n: usize) -> Vec<u8> {
 pub fn move_midway(random: &mut Random, list: &mut [u8], n: usize) {
     // Each one of u makes seven ones of c, so an even number of ones makes an even number.
     let difference = convolve(&short_difference(random, n));
-    let places: Vec<usize> = (0..2 * n).filter(|&k| difference[k] == 1).collect();
+    let places = ones_at(&difference);
     let half = places.len() / 2;
     turn_over(random, list, places, half);
 }
@@ -92,11 +86,6 @@ pub fn pattern(random: &mut Random, length: usize) -> Vec<u8> {
 #[cfg(test)]
 mod tests {
     use super::*;
-
-    /// The number of ones.
-    fn ones(bits: &[u8]) -> usize {
-        bits.iter().filter(|&&bit| bit == 1).count()
-    }
 
     #[test]
     fn so_many_bits_are_altered() {
@@ -129,13 +118,6 @@ mod tests {
         }
         assert_eq!(short_difference(&mut random, 5), [0; 5]);
         assert_eq!(short_difference(&mut random, 2), [0; 2]);
-    }
-
-    #[test]
-    fn a_sum_of_lists() {
-        let mut list = vec![0, 1, 0, 1, 1];
-        add(&mut list, &[0, 0, 1, 1]);
-        assert_eq!(list, [0, 1, 1, 0, 1]);
     }
 
     #[test]

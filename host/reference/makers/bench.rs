@@ -5,7 +5,7 @@ use crate::chance::cable;
 use crate::chance::lists;
 use crate::chance::random::Random;
 use crate::makers::sent_lines as lines;
-use crate::model::diagonal::BURST;
+use crate::model::burst::BURST;
 use crate::model::sending_stream::sent_and_ended;
 
 /// So many numbers there are for bursts.

@@ -5,7 +5,7 @@ use crate::chance::lists;
 use crate::chance::random::Random;
 use crate::makers::sent_lines::{self as lines, Request};
 use crate::model::burst;
-use crate::model::coding;
+use crate::model::{bits, channel, coding};
 
 /// A receiving verb.
 #[derive(Clone, Copy)]
@@ -120,13 +120,8 @@ fn coded_list(random: &mut Random, kind: Kind, sender: usize) -> Vec<u8> {
 fn sent(random: &mut Random, kind: Kind, sender: usize) -> Vec<u8> {
     let characters = lines::good_bits(random, kind.information);
     let d: Vec<u8> = characters.iter().map(|bit| bit - b'0').collect();
-    let c = match kind.word {
-        "speech?" => coding::speech(&d),
-        "access?" => coding::access(sender as u16, &d),
-        "sch?" => coding::sch(&d),
-        _ => coding::control(&d),
-    };
-    c.expect("a good block is sent")
+    let channel = channel::named(kind.word.trim_end_matches('?').as_bytes()).unwrap();
+    (channel.encoder)(channel, sender as u16, &d)
 }
 
 /// Alters 0 to 20 bits; 0 to 3, 4 to 7 and more are all common.
@@ -154,7 +149,7 @@ fn spoil_parity(random: &mut Random, kind: Kind, list: &mut [u8]) {
     for _ in 0..=random.below(3) {
         u[first + random.below(number)] = 1;
     }
-    lists::add(list, &coding::convolve(&u));
+    bits::add(list, &coding::convolve(&u));
 }
 
 /// Four bursts; their flags are all 1, all 0 or random.
@@ -164,11 +159,7 @@ fn on_bursts(random: &mut Random, c: &[u8]) -> Vec<u8> {
         1 => vec![0; 8],
         _ => vec![1; 8],
     };
-    let mut e = Vec::new();
-    for (i, flags) in burst::interleave(c, 4).iter().zip(flags.chunks(2)) {
-        e.extend(burst::map_on_burst(i, flags[0], flags[1]));
-    }
-    e
+    burst::on_four_bursts(c, &flags)
 }
 
 /// A length other than the right one; the longest fills the line up to its limit.

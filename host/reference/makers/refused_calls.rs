@@ -6,7 +6,7 @@ use crate::makers::bench::{self, Bench};
 use crate::makers::received_lines;
 use crate::makers::sent_lines as lines;
 use crate::makers::view_lines;
-use crate::model::diagonal::BURST;
+use crate::model::burst::BURST;
 
 /// One random line that leaves the bench's streams as they are.
 pub fn line(random: &mut Random, bench: &Bench) -> Vec<u8> {

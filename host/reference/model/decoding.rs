@@ -1,24 +1,26 @@
 //! The nearest candidate. Candidates are all u of n bits whose last four are 0; the nearest is
 //! the one whose pairs disagree with the received bits in the fewest places.
 
-use crate::model::exhaustive::{bits_of, Received};
-use crate::model::survivors::{advance, Survivor};
+use crate::model::bits::bits_of;
+use crate::model::exhaustive::Pairs;
+use crate::model::survivors::{survivors, Survivor};
 
 /// Up to this many free bits, all candidates are gone through.
 const FEW_FREE_BITS: usize = 14;
 
-/// The nearest candidate and its count; the received bits are n pairs, n at least 4.
-pub fn nearest(received: &[u8], n: usize) -> Survivor {
-    if n - 4 <= FEW_FREE_BITS {
-        nearest_of_all(received, n)
+/// The nearest candidate and its count; at least 4 pairs are received.
+pub fn nearest(received: &[u8]) -> Survivor {
+    if received.len() / 2 - 4 <= FEW_FREE_BITS {
+        nearest_of_all(received)
     } else {
-        nearest_survivor(received, n)
+        nearest_survivor(received)
     }
 }
 
 /// Goes through all candidates, one after another.
-fn nearest_of_all(received: &[u8], n: usize) -> Survivor {
-    let pairs = Received::new(received);
+fn nearest_of_all(received: &[u8]) -> Survivor {
+    let n = received.len() / 2;
+    let pairs = Pairs::of(received);
     let candidate = |number: u64| Survivor {
         count: pairs.disagreements(number),
         u: bits_of(number, n),
@@ -37,14 +39,9 @@ fn nearest_of_all(received: &[u8], n: usize) -> Survivor {
 }
 
 /// Lengthens the survivors pair by pair; the last four bits can only be 0.
-fn nearest_survivor(received: &[u8], n: usize) -> Survivor {
-    let mut survivors = vec![Survivor::of_nothing()];
-    for k in 0..n {
-        let next_bits: &[u8] = if k < n - 4 { &[0, 1] } else { &[0] };
-        survivors = advance(&survivors, &received[2 * k..2 * k + 2], next_bits);
-    }
+fn nearest_survivor(received: &[u8]) -> Survivor {
     // All candidates end in state 0, so one survivor is left.
-    survivors.remove(0)
+    survivors(received, received.len() / 2 - 4).remove(0)
 }
 
 #[cfg(test)]
@@ -52,44 +49,36 @@ mod tests {
     use super::*;
     use crate::chance::lists;
     use crate::chance::random::Random;
+    use crate::model::bits::inverted;
     use crate::model::coding::convolve;
 
     /// The number of candidates that have the fewest disagreements.
     fn equals(received: &[u8], n: usize) -> usize {
-        let fewest = nearest_of_all(received, n).count;
-        let pairs = Received::new(received);
+        let fewest = nearest_of_all(received).count;
+        let pairs = Pairs::of(received);
         (0..1 << (n - 4))
             .filter(|&number| pairs.disagreements(number) == fewest)
             .count()
     }
 
     /// Both methods answer the same.
-    fn both_agree(received: &[u8], n: usize) {
-        assert_eq!(
-            nearest_of_all(received, n),
-            nearest_survivor(received, n),
-            "{:?}",
-            received
-        );
+    fn both_agree(received: &[u8]) {
+        let (one, other) = (nearest_of_all(received), nearest_survivor(received));
+        assert_eq!(one, other, "{:?}", received);
     }
 
-    /// The pairs of a random candidate.
-    fn coded_candidate(random: &mut Random, n: usize) -> Vec<u8> {
+    /// A random candidate of n bits.
+    fn candidate(random: &mut Random, n: usize) -> Vec<u8> {
         let mut u = lists::random_bits(random, n);
         u[n - 4..].fill(0);
-        convolve(&u)
+        u
     }
 
     /// A list midway between two coded candidates.
     fn midway(random: &mut Random, n: usize) -> Vec<u8> {
-        let mut received = coded_candidate(random, n);
+        let mut received = convolve(&candidate(random, n));
         lists::move_midway(random, &mut received, n);
         received
-    }
-
-    /// The list with every bit turned over.
-    fn complement(bits: &[u8]) -> Vec<u8> {
-        bits.iter().map(|bit| 1 - bit).collect()
     }
 
     #[test]
@@ -97,7 +86,7 @@ mod tests {
         let mut random = Random::new(22);
         for n in 4..=18 {
             for _ in 0..60 {
-                both_agree(&lists::random_bits(&mut random, 2 * n), n);
+                both_agree(&lists::random_bits(&mut random, 2 * n));
             }
         }
     }
@@ -107,10 +96,10 @@ mod tests {
         let mut random = Random::new(23);
         for n in 4..=18 {
             for altered in 0..20 {
-                let mut received = coded_candidate(&mut random, n);
+                let mut received = convolve(&candidate(&mut random, n));
                 lists::alter(&mut random, &mut received, altered);
-                both_agree(&received, n);
-                both_agree(&complement(&received), n);
+                both_agree(&received);
+                both_agree(&inverted(&received));
             }
         }
     }
@@ -121,10 +110,10 @@ mod tests {
         for n in 4..=18 {
             for _ in 0..30 {
                 let received = midway(&mut random, n);
-                both_agree(&received, n);
-                both_agree(&complement(&received), n);
-                both_agree(&lists::few_turned(&mut random, 2 * n), n);
-                both_agree(&lists::pattern(&mut random, 2 * n), n);
+                both_agree(&received);
+                both_agree(&inverted(&received));
+                both_agree(&lists::few_turned(&mut random, 2 * n));
+                both_agree(&lists::pattern(&mut random, 2 * n));
             }
         }
     }
@@ -137,8 +126,8 @@ mod tests {
                     let mut received = vec![0; 2 * n];
                     received[one] = 1;
                     received[other] = 1;
-                    both_agree(&received, n);
-                    both_agree(&complement(&received), n);
+                    both_agree(&received);
+                    both_agree(&inverted(&received));
                 }
             }
         }
@@ -156,7 +145,7 @@ mod tests {
     /// The list ties between two candidates of six bits at four disagreements; both methods take u.
     fn tie_takes(received: &[u8], u: &[u8]) {
         assert_eq!(equals(received, 6), 2);
-        for answer in [nearest_of_all(received, 6), nearest_survivor(received, 6)] {
+        for answer in [nearest_of_all(received), nearest_survivor(received)] {
             assert_eq!((answer.count, &answer.u[..]), (4, u));
         }
     }
@@ -177,23 +166,19 @@ mod tests {
 
     #[test]
     fn zeros_with_bits_0_1_3_6_set() {
-        let mut received = vec![0; 36];
-        for k in [0, 1, 3, 6] {
-            received[k] = 1;
-        }
-        let answer = nearest(&received, 18);
+        let received = [&[1, 1, 0, 1, 0, 0, 1][..], &[0; 29]].concat();
+        let answer = nearest(&received);
         assert_eq!(answer.count, 3);
         assert_eq!(answer.u, [&[1][..], &[0; 17]].concat());
-        assert_eq!(nearest_survivor(&received, 18), answer);
+        assert_eq!(nearest_survivor(&received), answer);
     }
 
     #[test]
     fn a_coded_candidate_is_its_own_nearest() {
         let mut random = Random::new(26);
         for n in [4, 18, 39, 189, 228] {
-            let mut u = lists::random_bits(&mut random, n);
-            u[n - 4..].fill(0);
-            let answer = nearest(&convolve(&u), n);
+            let u = candidate(&mut random, n);
+            let answer = nearest(&convolve(&u));
             assert_eq!((answer.count, answer.u), (0, u));
         }
     }
@@ -203,11 +188,10 @@ mod tests {
         let mut random = Random::new(27);
         for n in [4, 18, 19, 39, 189, 228] {
             for altered in 0..=3 {
-                let mut u = lists::random_bits(&mut random, n);
-                u[n - 4..].fill(0);
+                let u = candidate(&mut random, n);
                 let mut received = convolve(&u);
                 lists::alter(&mut random, &mut received, altered);
-                let answer = nearest(&received, n);
+                let answer = nearest(&received);
                 assert_eq!((answer.count, answer.u), (altered, u));
             }
         }

@@ -1,23 +1,12 @@
 //! The receiving stream: holds every burst taken, and picks each bit of a block by the formula.
 
-use crate::model::coding::check;
-use crate::model::diagonal::{self, BURST};
-use crate::model::receiving::{self, Received, Refusal};
-use crate::model::sending_stream::STREAM_FULL;
+use crate::model::burst::{Interleaving, BURST};
+use crate::model::channel::NO_IDENTITY;
+use crate::model::kind::Kind;
+use crate::model::refusal::{check, Refusal};
 
 /// Burst 65,535 is the last that can be taken.
 const MOST_BURSTS: usize = 65_536;
-/// The burst number is not the next one.
-const OUT_OF_TURN: u8 = 4;
-/// Four of the eight flags are 1.
-const FOUR_FLAGS: u8 = 9;
-
-/// The kind of a block.
-#[derive(Clone, Copy, Debug, PartialEq)]
-pub enum Kind {
-    Speech,
-    Facch,
-}
 
 /// What a taken burst brings.
 #[derive(Debug, PartialEq)]
@@ -49,24 +38,6 @@ fn answered(burst: usize) -> Option<usize> {
     }
 }
 
-/// 0 to 3 ones mean speech, 5 to 8 FACCH, 4 neither.
-fn kind_of(flags: &[u8]) -> Option<Kind> {
-    let ones = flags.iter().filter(|&&flag| flag == 1).count();
-    match ones {
-        0..=3 => Some(Kind::Speech),
-        4 => None,
-        _ => Some(Kind::Facch),
-    }
-}
-
-/// The answer for block n of a kind, from what its decoding gives.
-fn decoded(n: usize, kind: Kind, received: Received) -> Taken {
-    match received {
-        Ok((count, d)) => Taken::Good { n, kind, count, d },
-        Err(refusal) => Taken::Bad { n, refusal },
-    }
-}
-
 impl Receiver {
     /// No burst taken yet.
     pub fn fresh() -> Receiver {
@@ -74,30 +45,34 @@ impl Receiver {
     }
 
     /// Takes the next burst; refusals that leave the stream in the order 1, 2, 5, 4.
-    pub fn take(&mut self, number: u16, e: &[u8]) -> Result<Taken, u8> {
-        check(e, BURST)?;
+    pub fn take(&mut self, number: u16, e: &[u8]) -> Result<Taken, Refusal> {
+        check(e, e.len() == BURST)?;
         if self.bursts.len() == MOST_BURSTS {
-            return Err(STREAM_FULL);
+            return Err(Refusal::StreamFull);
         }
         let burst = usize::from(number);
         if burst != self.bursts.len() {
-            return Err(OUT_OF_TURN);
+            return Err(Refusal::OutOfTurn);
         }
         self.bursts.push(e.to_vec());
-        Ok(answered(burst).map_or(Taken::Waiting, |n| self.block(n)))
+        Ok(answered(burst).map_or(Taken::Waiting, |n| self.answer(n)))
     }
 
     /// The answer for block n, whose eight bursts have been taken.
-    fn block(&self, n: usize) -> Taken {
-        let c = diagonal::bits(&self.bursts, n);
-        match kind_of(&diagonal::flags(&self.bursts, n)) {
-            Some(Kind::Speech) => decoded(n, Kind::Speech, receiving::speech(&c)),
-            Some(Kind::Facch) => decoded(n, Kind::Facch, receiving::control(&c)),
-            None => Taken::Bad {
-                n,
-                refusal: Refusal::from(FOUR_FLAGS),
-            },
+    fn answer(&self, n: usize) -> Taken {
+        match self.block(n) {
+            Ok((kind, count, d)) => Taken::Good { n, kind, count, d },
+            Err(refusal) => Taken::Bad { n, refusal },
         }
+    }
+
+    /// The kind of block n, its count and its information bits; refusal 9 comes before 8.
+    fn block(&self, n: usize) -> Result<(Kind, usize, Vec<u8>), Refusal> {
+        let spread = Interleaving::Diagonal(n);
+        let kind = Kind::of_flags(&spread.flags(&self.bursts)).ok_or(Refusal::FourFlags)?;
+        let c = spread.bits(&self.bursts);
+        let (count, d) = kind.channel().decode(NO_IDENTITY, &c)?;
+        Ok((kind, count, d))
     }
 }
 
@@ -106,6 +81,10 @@ mod tests {
     use super::*;
     use crate::chance::lists::{alter, random_bits};
     use crate::chance::random::Random;
+    use crate::model::bits::inverted;
+    use crate::model::burst::cut;
+    use crate::model::burst::Interleaving::Diagonal;
+    use crate::model::refusal::Refusal::*;
     use crate::model::sending_stream::sent_and_ended;
 
     /// Random blocks of the kinds that the letters name: s for speech, f for FACCH.
@@ -132,14 +111,9 @@ mod tests {
 
     /// Block n as it was sent, with so many protected bits altered.
     fn as_sent(n: usize, d: &[u8], count: usize) -> Taken {
-        let kind = if d.len() == 260 {
-            Kind::Speech
-        } else {
-            Kind::Facch
-        };
         Taken::Good {
             n,
-            kind,
+            kind: Kind::of_length(d.len()).unwrap(),
             count,
             d: d.to_vec(),
         }
@@ -149,10 +123,7 @@ mod tests {
     fn four_flags(n: usize) -> Taken {
         Taken::Bad {
             n,
-            refusal: Refusal {
-                number: 9,
-                count: None,
-            },
+            refusal: FourFlags,
         }
     }
 
@@ -160,43 +131,25 @@ mod tests {
     fn bad_parity(n: usize, count: usize) -> Taken {
         Taken::Bad {
             n,
-            refusal: Refusal {
-                number: 8,
-                count: Some(count),
-            },
+            refusal: BadParity { count },
         }
     }
 
-    /// Turns every bit over.
-    fn invert(bits: &mut [u8]) {
-        for bit in bits {
-            *bit = 1 - *bit;
-        }
-    }
-
-    /// Alters so many protected bits of block n, and so many of its flags.
-    fn alter_block(
-        random: &mut Random,
+    /// Changes the coded bits and the flags of block n, and nothing else.
+    fn change_block(
         bursts: &mut [Vec<u8>],
         n: usize,
-        protected: usize,
-        altered: (usize, usize),
+        change: impl FnOnce(&mut Vec<u8>, &mut Vec<u8>),
     ) {
-        let mut c = diagonal::bits(bursts, n);
-        alter(random, &mut c[..protected], altered.0);
-        diagonal::put_bits(bursts, n, &c);
-        let mut flags = diagonal::flags(bursts, n);
-        alter(random, &mut flags, altered.1);
-        diagonal::put_flags(bursts, n, &flags);
+        let (mut c, mut flags) = (Diagonal(n).bits(bursts), Diagonal(n).flags(bursts));
+        change(&mut c, &mut flags);
+        Diagonal(n).put_bits(bursts, &c);
+        Diagonal(n).put_flags(bursts, &flags);
     }
 
-    /// The number of protected bits of a block.
-    fn protected(d: &[u8]) -> usize {
-        if d.len() == 260 {
-            378
-        } else {
-            456
-        }
+    /// Alters so many of the flags of block n.
+    fn alter_flags(random: &mut Random, bursts: &mut [Vec<u8>], n: usize, number: usize) {
+        change_block(bursts, n, |_, flags| alter(random, flags, number));
     }
 
     #[test]
@@ -229,11 +182,11 @@ mod tests {
         for n in 0..6 {
             for number in 0..=3 {
                 let mut bursts = sent.clone();
-                alter_block(&mut random, &mut bursts, n, 456, (0, number));
+                alter_flags(&mut random, &mut bursts, n, number);
                 assert_eq!(answers(&bursts), answers(&sent));
             }
             let mut bursts = sent.clone();
-            alter_block(&mut random, &mut bursts, n, 456, (0, 4));
+            alter_flags(&mut random, &mut bursts, n, 4);
             let mut expected = answers(&sent);
             expected[n] = four_flags(n);
             assert_eq!(answers(&bursts), expected);
@@ -241,27 +194,17 @@ mod tests {
     }
 
     #[test]
-    fn any_four_flags_give_9_and_more_the_other_kind() {
-        for pattern in 0..256_u32 {
-            let flags: Vec<u8> = (0..8).map(|m| (pattern >> m & 1) as u8).collect();
-            let expected = match pattern.count_ones() {
-                0..=3 => Some(Kind::Speech),
-                4 => None,
-                _ => Some(Kind::Facch),
-            };
-            assert_eq!(kind_of(&flags), expected);
-        }
-        // Zeros are speech with bad parity, or FACCH with bad parity.
+    fn zeros_have_a_bad_parity_as_either_kind() {
         let mut bursts = vec![vec![0; BURST]; 8];
         assert_eq!(answers(&bursts), [bad_parity(0, 0)]);
-        diagonal::put_flags(&mut bursts, 0, &[1, 0, 1, 1, 0, 1, 0, 1]);
+        Diagonal(0).put_flags(&mut bursts, &[1, 0, 1, 1, 0, 1, 0, 1]);
         assert_eq!(answers(&bursts), [bad_parity(0, 0)]);
     }
 
     #[test]
     fn four_flags_come_before_a_bad_parity() {
         let mut bursts = vec![vec![0; BURST]; 8];
-        diagonal::put_flags(&mut bursts, 0, &[0, 0, 0, 0, 1, 1, 1, 1]);
+        Diagonal(0).put_flags(&mut bursts, &[0, 0, 0, 0, 1, 1, 1, 1]);
         assert_eq!(answers(&bursts), [four_flags(0)]);
     }
 
@@ -272,12 +215,15 @@ mod tests {
         let sent = sent_and_ended(&blocks);
         for n in 0..6 {
             for altered in 0..=3 {
-                let mut bursts: Vec<Vec<u8>> =
-                    (0..28).map(|_| random_bits(&mut random, BURST)).collect();
-                diagonal::put_bits(&mut bursts, n, &diagonal::bits(&sent, n));
-                diagonal::put_flags(&mut bursts, n, &diagonal::flags(&sent, n));
-                let protected = protected(&blocks[n]);
-                alter_block(&mut random, &mut bursts, n, protected, (altered, altered));
+                let mut bursts = cut(&random_bits(&mut random, 28 * BURST));
+                let kind = Kind::of_length(blocks[n].len()).unwrap();
+                change_block(&mut bursts, n, |c, flags| {
+                    *c = Diagonal(n).bits(&sent);
+                    *flags = Diagonal(n).flags(&sent);
+                    let protected = kind.channel().protected();
+                    alter(&mut random, &mut c[..protected], altered);
+                    alter(&mut random, flags, altered);
+                });
                 assert_eq!(answers(&bursts)[n], as_sent(n, &blocks[n], altered));
             }
         }
@@ -287,10 +233,10 @@ mod tests {
     fn unprotected_bits_are_given_as_received() {
         let mut blocks = blocks(68, "sss");
         let mut bursts = sent_and_ended(&blocks);
-        let mut c = diagonal::bits(&bursts, 1);
-        invert(&mut c[378..]);
-        diagonal::put_bits(&mut bursts, 1, &c);
-        invert(&mut blocks[1][182..]);
+        change_block(&mut bursts, 1, |c, _| {
+            *c = [&c[..378], &inverted(&c[378..])].concat();
+        });
+        blocks[1] = [&blocks[1][..182], &inverted(&blocks[1][182..])].concat();
         let expected: Vec<Taken> = (0..3).map(|n| as_sent(n, &blocks[n], 0)).collect();
         assert_eq!(answers(&bursts), expected);
     }
@@ -301,7 +247,7 @@ mod tests {
         let sent = sent_and_ended(&blocks);
         for burst in 0..32 {
             let mut bursts = sent.clone();
-            invert(&mut bursts[burst]);
+            bursts[burst] = inverted(&bursts[burst]);
             let answers = answers(&bursts);
             let lost: Vec<usize> = (0..7)
                 .filter(|&n| answers[n] != as_sent(n, &blocks[n], 0))
@@ -317,16 +263,16 @@ mod tests {
     #[test]
     fn refusals_come_in_the_order_1_2_5_4() {
         let mut receiver = Receiver::fresh();
-        assert_eq!(receiver.take(1, &[2; 115]), Err(1));
-        assert_eq!(receiver.take(1, &[]), Err(1));
-        assert_eq!(receiver.take(0, &[0; 117]), Err(1));
-        assert_eq!(receiver.take(1, &[2; 116]), Err(2));
-        assert_eq!(receiver.take(1, &[0; 116]), Err(4));
-        assert_eq!(receiver.take(65_535, &[0; 116]), Err(4));
+        assert_eq!(receiver.take(1, &[2; 115]), Err(WrongLength));
+        assert_eq!(receiver.take(1, &[]), Err(WrongLength));
+        assert_eq!(receiver.take(0, &[0; 117]), Err(WrongLength));
+        assert_eq!(receiver.take(1, &[2; 116]), Err(NotABit));
+        assert_eq!(receiver.take(1, &[0; 116]), Err(OutOfTurn));
+        assert_eq!(receiver.take(65_535, &[0; 116]), Err(OutOfTurn));
         assert_eq!(receiver.take(0, &[0; 116]), Ok(Taken::Waiting));
-        assert_eq!(receiver.take(0, &[0; 116]), Err(4));
-        assert_eq!(receiver.take(2, &[0; 116]), Err(4));
-        assert_eq!(receiver.take(257, &[0; 116]), Err(4));
+        assert_eq!(receiver.take(0, &[0; 116]), Err(OutOfTurn));
+        assert_eq!(receiver.take(2, &[0; 116]), Err(OutOfTurn));
+        assert_eq!(receiver.take(257, &[0; 116]), Err(OutOfTurn));
         assert_eq!(receiver.take(1, &[0; 116]), Ok(Taken::Waiting));
     }
 
@@ -336,7 +282,7 @@ mod tests {
         for k in 0..116 {
             let mut e = vec![0; 116];
             e[k] = 2;
-            assert_eq!(receiver.take(0, &e), Err(2), "e({})", k);
+            assert_eq!(receiver.take(0, &e), Err(NotABit), "e({})", k);
         }
     }
 
@@ -347,11 +293,11 @@ mod tests {
         let mut taken = Vec::new();
         for number in 0..20 {
             let e = &bursts[usize::from(number)];
-            assert_eq!(receiver.take(number, &e[1..]), Err(1));
-            assert_eq!(receiver.take(number, &[255; 116]), Err(2));
-            assert_eq!(receiver.take(number + 1, e), Err(4));
+            assert_eq!(receiver.take(number, &e[1..]), Err(WrongLength));
+            assert_eq!(receiver.take(number, &[255; 116]), Err(NotABit));
+            assert_eq!(receiver.take(number + 1, e), Err(OutOfTurn));
             taken.push(receiver.take(number, e).unwrap());
-            assert_eq!(receiver.take(number, e), Err(4));
+            assert_eq!(receiver.take(number, e), Err(OutOfTurn));
         }
         assert_eq!(taken, given(&bursts));
     }
@@ -361,12 +307,12 @@ mod tests {
         let mut receiver = Receiver {
             bursts: vec![vec![0; BURST]; 65_535],
         };
-        assert_eq!(receiver.take(0, &[0; 116]), Err(4));
+        assert_eq!(receiver.take(0, &[0; 116]), Err(OutOfTurn));
         assert_eq!(receiver.take(65_535, &[0; 116]), Ok(bad_parity(16_382, 0)));
         for number in [0, 65_535] {
-            assert_eq!(receiver.take(number, &[0; 115]), Err(1));
-            assert_eq!(receiver.take(number, &[2; 116]), Err(2));
-            assert_eq!(receiver.take(number, &[0; 116]), Err(5));
+            assert_eq!(receiver.take(number, &[0; 115]), Err(WrongLength));
+            assert_eq!(receiver.take(number, &[2; 116]), Err(NotABit));
+            assert_eq!(receiver.take(number, &[0; 116]), Err(StreamFull));
         }
     }
 }

@@ -1,17 +1,13 @@
 //! The sending stream: each coded bit is scattered to its burst and place, in a list of bursts
 //! that grows by four with every block.
 
-use crate::model::coding::{self, WRONG_LENGTH};
-use crate::model::diagonal::{self, BURST};
+use crate::model::burst::{cut, Interleaving, BURST};
+use crate::model::channel::NO_IDENTITY;
+use crate::model::kind::Kind;
+use crate::model::refusal::Refusal;
 
 /// So many blocks make a stream full.
 pub const MOST_BLOCKS: usize = 16_383;
-/// The stream is full.
-pub const STREAM_FULL: u8 = 5;
-/// End with no block sent.
-const NOTHING_SENT: u8 = 6;
-/// Send or end after end.
-const ENDED: u8 = 7;
 
 /// A sending stream.
 pub struct Sender {
@@ -22,13 +18,11 @@ pub struct Sender {
     ended: bool,
 }
 
-/// The coded bits of a block and its flag: 260 bits are speech, 0; 184 bits are FACCH, 1.
-fn coded(d: &[u8]) -> Result<(Vec<u8>, u8), u8> {
-    match d.len() {
-        260 => Ok((coding::speech(d)?, 0)),
-        184 => Ok((coding::control(d)?, 1)),
-        _ => Err(WRONG_LENGTH),
-    }
+/// The coded bits and the flags of a block; its length names its kind.
+fn coded(d: &[u8]) -> Result<(Vec<u8>, [u8; 8]), Refusal> {
+    let kind = Kind::of_length(d.len()).ok_or(Refusal::WrongLength)?;
+    let c = kind.channel().encode(NO_IDENTITY, d)?;
+    Ok((c, kind.flags()))
 }
 
 impl Sender {
@@ -42,29 +36,30 @@ impl Sender {
     }
 
     /// Sends block n: bursts 4n to 4n+3, one after another; refusals in the order 1, 2, 7, 5.
-    pub fn send(&mut self, d: &[u8]) -> Result<Vec<u8>, u8> {
-        let (c, flag) = coded(d)?;
+    pub fn send(&mut self, d: &[u8]) -> Result<Vec<u8>, Refusal> {
+        let (c, flags) = coded(d)?;
         if self.ended {
-            return Err(ENDED);
+            return Err(Refusal::Ended);
         }
         if self.blocks == MOST_BLOCKS {
-            return Err(STREAM_FULL);
+            return Err(Refusal::StreamFull);
         }
         let n = self.blocks;
         self.blocks += 1;
         self.bursts.resize(4 * n + 8, vec![0; BURST]);
-        diagonal::put_bits(&mut self.bursts, n, &c);
-        diagonal::put_flags(&mut self.bursts, n, &[flag; 8]);
+        let spread = Interleaving::Diagonal(n);
+        spread.put_bits(&mut self.bursts, &c);
+        spread.put_flags(&mut self.bursts, &flags);
         Ok(self.four_bursts(4 * n))
     }
 
     /// Ends the stream: the last four bursts; refusals in the order 7, 6.
-    pub fn end(&mut self) -> Result<Vec<u8>, u8> {
+    pub fn end(&mut self) -> Result<Vec<u8>, Refusal> {
         if self.ended {
-            return Err(ENDED);
+            return Err(Refusal::Ended);
         }
         if self.blocks == 0 {
-            return Err(NOTHING_SENT);
+            return Err(Refusal::NothingSent);
         }
         self.ended = true;
         Ok(self.four_bursts(4 * self.blocks))
@@ -84,15 +79,16 @@ pub fn sent_and_ended(blocks: &[Vec<u8>]) -> Vec<Vec<u8>> {
         written.extend(sender.send(d).expect("a good block is sent"));
     }
     written.extend(sender.end().unwrap_or_default());
-    written.chunks(BURST).map(|e| e.to_vec()).collect()
+    cut(&written)
 }
 
 #[cfg(test)]
 mod tests {
     use super::*;
-    use crate::chance::lists::{add, random_bits};
+    use crate::chance::lists::random_bits;
     use crate::chance::random::Random;
-    use crate::model::burst::{interleave, map_on_burst, places};
+    use crate::model::burst::{burst_and_place, places};
+    use crate::model::refusal::Refusal::*;
 
     /// Random blocks, speech and FACCH in turn.
     fn blocks(seed: u64, number: usize) -> Vec<Vec<u8>> {
@@ -131,8 +127,9 @@ mod tests {
         let mut i = vec![vec![0; 114]; 24];
         for n in 0..5 {
             let (c, _) = coded(&blocks[n]).unwrap();
-            for (burst, half) in interleave(&c, 8).iter().enumerate() {
-                add(&mut i[4 * n + burst], half);
+            for k in 0..=455 {
+                let (burst, place) = burst_and_place(k, 8);
+                i[4 * n + burst][place] += c[k];
             }
         }
         let bursts = sent_and_ended(&blocks);
@@ -140,7 +137,8 @@ mod tests {
             // Blocks 1 and 3 are FACCH.
             let hu = u8::from([1, 3].contains(&(burst / 4)));
             let hl = u8::from([2, 4].contains(&(burst / 4)));
-            assert_eq!(bursts[burst], map_on_burst(&i[burst], hl, hu));
+            assert_eq!(places(&bursts[burst]), i[burst]);
+            assert_eq!(bursts[burst][57..=58], [hl, hu]);
         }
     }
 
@@ -195,13 +193,18 @@ mod tests {
     fn wrong_lengths_are_refused_first_and_bytes_over_1_next() {
         let mut sender = Sender::fresh();
         for length in [0, 1, 183, 185, 259, 261, 444, 456] {
-            assert_eq!(sender.send(&vec![2; length]), Err(1), "{}", length);
+            assert_eq!(
+                sender.send(&vec![2; length]),
+                Err(WrongLength),
+                "{}",
+                length
+            );
         }
         for length in [184, 260] {
             for place in [0, length - 1] {
                 let mut d = vec![1; length];
                 d[place] = 2;
-                assert_eq!(sender.send(&d), Err(2), "{}", length);
+                assert_eq!(sender.send(&d), Err(NotABit), "{}", length);
             }
         }
         assert_eq!(sender.blocks, 0);
@@ -210,8 +213,8 @@ mod tests {
     #[test]
     fn end_needs_a_block() {
         let mut sender = Sender::fresh();
-        assert_eq!(sender.end(), Err(6));
-        assert_eq!(sender.end(), Err(6));
+        assert_eq!(sender.end(), Err(NothingSent));
+        assert_eq!(sender.end(), Err(NothingSent));
         assert!(sender.send(&[1; 184]).is_ok());
         assert!(sender.end().is_ok());
     }
@@ -220,11 +223,11 @@ mod tests {
     fn after_end_1_and_2_come_before_7() {
         let mut sender = after(1);
         assert!(sender.end().is_ok());
-        assert_eq!(sender.send(&[2; 183]), Err(1));
-        assert_eq!(sender.send(&[2; 184]), Err(2));
-        assert_eq!(sender.send(&[0; 184]), Err(7));
-        assert_eq!(sender.send(&[0; 260]), Err(7));
-        assert_eq!(sender.end(), Err(7));
+        assert_eq!(sender.send(&[2; 183]), Err(WrongLength));
+        assert_eq!(sender.send(&[2; 184]), Err(NotABit));
+        assert_eq!(sender.send(&[0; 184]), Err(Ended));
+        assert_eq!(sender.send(&[0; 260]), Err(Ended));
+        assert_eq!(sender.end(), Err(Ended));
     }
 
     #[test]
@@ -232,10 +235,10 @@ mod tests {
         let blocks = blocks(63, 4);
         let mut sender = Sender::fresh();
         let mut written = Vec::new();
-        assert_eq!(sender.end(), Err(6));
+        assert_eq!(sender.end(), Err(NothingSent));
         for d in &blocks {
-            assert_eq!(sender.send(&d[1..]), Err(1));
-            assert_eq!(sender.send(&[9; 260]), Err(2));
+            assert_eq!(sender.send(&d[1..]), Err(WrongLength));
+            assert_eq!(sender.send(&[9; 260]), Err(NotABit));
             written.extend(sender.send(d).unwrap());
         }
         written.extend(sender.end().unwrap());
@@ -246,14 +249,14 @@ mod tests {
     fn the_16383rd_block_is_sent_and_the_next_gets_5() {
         let mut sender = after(16_382);
         assert!(sender.send(&[1; 184]).is_ok());
-        assert_eq!(sender.send(&[1; 184]), Err(5));
-        assert_eq!(sender.send(&[0; 260]), Err(5));
-        assert_eq!(sender.send(&[2; 260]), Err(2));
-        assert_eq!(sender.send(&[]), Err(1));
+        assert_eq!(sender.send(&[1; 184]), Err(StreamFull));
+        assert_eq!(sender.send(&[0; 260]), Err(StreamFull));
+        assert_eq!(sender.send(&[2; 260]), Err(NotABit));
+        assert_eq!(sender.send(&[]), Err(WrongLength));
         // End is allowed at 16,383 blocks; then 7 comes before 5.
         assert_eq!(sender.end().unwrap().len(), 464);
         assert_eq!(sender.bursts.len(), 65_536);
-        assert_eq!(sender.send(&[0; 260]), Err(7));
-        assert_eq!(sender.end(), Err(7));
+        assert_eq!(sender.send(&[0; 260]), Err(Ended));
+        assert_eq!(sender.end(), Err(Ended));
     }
 }

@@ -30,7 +30,7 @@ fn next_pair(u: &[u8], next: u8) -> [u8; 2] {
 }
 
 /// Compared from the last bit back to u(0), the bits u have the 0 at the first difference.
-pub fn precedes(u: &[u8], v: &[u8]) -> bool {
+fn precedes(u: &[u8], v: &[u8]) -> bool {
     for k in (0..u.len()).rev() {
         if u[k] != v[k] {
             return u[k] == 0;
@@ -41,7 +41,7 @@ pub fn precedes(u: &[u8], v: &[u8]) -> bool {
 
 impl Survivor {
     /// No bits yet, and nothing received.
-    pub fn of_nothing() -> Survivor {
+    fn of_nothing() -> Survivor {
         Survivor {
             count: 0,
             u: Vec::new(),
@@ -65,7 +65,7 @@ impl Survivor {
 }
 
 /// All survivors with each of the next bits; of those in the same state the nearest is kept.
-pub fn advance(survivors: &[Survivor], received: &[u8], next_bits: &[u8]) -> Vec<Survivor> {
+fn advance(survivors: &[Survivor], received: &[u8], next_bits: &[u8]) -> Vec<Survivor> {
     let mut kept: Vec<Option<Survivor>> = vec![None; 16];
     for survivor in survivors {
         for &next in next_bits {
@@ -78,6 +78,16 @@ pub fn advance(survivors: &[Survivor], received: &[u8], next_bits: &[u8]) -> Vec
         }
     }
     kept.into_iter().flatten().collect()
+}
+
+/// The survivors after all received pairs; the bits from u(free) on can only be 0.
+pub fn survivors(received: &[u8], free: usize) -> Vec<Survivor> {
+    let mut survivors = vec![Survivor::of_nothing()];
+    for (k, pair) in received.chunks(2).enumerate() {
+        let next_bits: &[u8] = if k < free { &[0, 1] } else { &[0] };
+        survivors = advance(&survivors, pair, next_bits);
+    }
+    survivors
 }
 
 #[cfg(test)]
@@ -128,10 +138,16 @@ mod tests {
 
     #[test]
     fn after_four_pairs_every_state_has_its_survivor() {
-        let mut survivors = vec![Survivor::of_nothing()];
-        for number in [2, 4, 8, 16, 16, 16] {
-            survivors = advance(&survivors, &[0, 0], &[0, 1]);
-            assert_eq!(survivors.len(), number);
+        for (pairs, number) in [1, 2, 4, 8, 16, 16, 16].into_iter().enumerate() {
+            assert_eq!(survivors(&vec![0; 2 * pairs], pairs).len(), number);
+        }
+    }
+
+    #[test]
+    fn after_four_zeros_one_survivor_is_left() {
+        for free in 0..=6 {
+            let left = survivors(&vec![0; 2 * free + 8], free);
+            assert_eq!((left.len(), state(&left[0].u)), (1, 0));
         }
     }
 }

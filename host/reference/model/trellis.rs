@@ -1,8 +1,9 @@
 //! The trellis view: after t pairs, the fewest disagreements of any t bits in each state.
 
-use crate::model::coding::{NOT_A_BIT, WRONG_LENGTH};
-use crate::model::exhaustive::{bits_of, Received};
-use crate::model::survivors::{advance, state, Survivor};
+use crate::model::bits::bits_of;
+use crate::model::exhaustive::Pairs;
+use crate::model::refusal::{check, Refusal};
+use crate::model::survivors::{state, survivors};
 
 /// Up to this many pairs, all bits are gone through.
 const FEW_PAIRS: usize = 12;
@@ -15,14 +16,10 @@ const NONE: usize = 65_535;
 pub type View = [usize; 16];
 
 /// The view of the received bits; refusal 1 for the length, then refusal 2 for a byte over 1.
-pub fn view(received: &[u8]) -> Result<View, u8> {
-    if received.len() % 2 == 1 || received.len() > MOST_BITS {
-        return Err(WRONG_LENGTH);
-    }
-    if received.iter().any(|&byte| byte > 1) {
-        return Err(NOT_A_BIT);
-    }
-    if received.len() / 2 <= FEW_PAIRS {
+pub fn view(received: &[u8]) -> Result<View, Refusal> {
+    let length = received.len();
+    check(received, length % 2 == 0 && length <= MOST_BITS)?;
+    if length / 2 <= FEW_PAIRS {
         Ok(view_of_all(received))
     } else {
         Ok(view_of_survivors(received))
@@ -32,7 +29,7 @@ pub fn view(received: &[u8]) -> Result<View, u8> {
 /// Goes through all t bits, one after another.
 fn view_of_all(received: &[u8]) -> View {
     let t = received.len() / 2;
-    let pairs = Received::new(received);
+    let pairs = Pairs::of(received);
     let mut fewest = [NONE; 16];
     for number in 0..1 << t {
         let place = &mut fewest[state(&bits_of(number, t))];
@@ -43,12 +40,8 @@ fn view_of_all(received: &[u8]) -> View {
 
 /// Lengthens the survivors pair by pair; each of the last ones tells its state's number.
 fn view_of_survivors(received: &[u8]) -> View {
-    let mut survivors = vec![Survivor::of_nothing()];
-    for pair in received.chunks(2) {
-        survivors = advance(&survivors, pair, &[0, 1]);
-    }
     let mut fewest = [NONE; 16];
-    for survivor in survivors {
+    for survivor in survivors(received, received.len() / 2) {
         fewest[state(&survivor.u)] = survivor.count;
     }
     fewest
@@ -119,15 +112,25 @@ mod tests {
         let mut random = Random::new(29);
         for n in [4, 11, 12, 13, 18, 19, 39, 189, 228] {
             let received = lists::random_bits(&mut random, 2 * n);
-            assert_eq!(view(&received).unwrap()[0], nearest(&received, n).count);
+            assert_eq!(view(&received).unwrap()[0], nearest(&received).count);
         }
     }
 
     #[test]
     fn odd_lengths_and_those_over_456_are_refused_first() {
         for length in [1, 3, 455, 457, 458, 464, 990] {
-            assert_eq!(view(&vec![0; length]), Err(1), "{}", length);
-            assert_eq!(view(&vec![2; length]), Err(1), "{}", length);
+            assert_eq!(
+                view(&vec![0; length]),
+                Err(Refusal::WrongLength),
+                "{}",
+                length
+            );
+            assert_eq!(
+                view(&vec![2; length]),
+                Err(Refusal::WrongLength),
+                "{}",
+                length
+            );
         }
         assert!(view(&[0; 456]).is_ok());
     }
@@ -138,7 +141,7 @@ mod tests {
             for byte in [2, 255] {
                 let mut received = vec![0; length];
                 received[length - 1] = byte;
-                assert_eq!(view(&received), Err(2), "{}", length);
+                assert_eq!(view(&received), Err(Refusal::NotABit), "{}", length);
             }
         }
     }

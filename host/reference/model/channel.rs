@@ -1,0 +1,424 @@
+//! The table of channels, and the two entries that each of them has.
+
+use crate::model::burst::{from_four_bursts, on_four_bursts};
+use crate::model::coding;
+use crate::model::polynomial::{from_powers, multiply, Polynomial};
+use crate::model::receiving;
+use crate::model::refusal::{check, check_identity, Refusal};
+
+/// A good block: the count of disagreements and the information bits d.
+pub type Received = Result<(usize, Vec<u8>), Refusal>;
+
+/// What a channel that has no identity is called with; it is not looked at.
+pub const NO_IDENTITY: u16 = 0;
+
+/// A channel: one row of the table.
+#[derive(Clone, Copy)]
+pub struct Channel {
+    /// The kit's verb that sends a block; with a question mark behind it, the one that receives it.
+    pub name: &'static str,
+    /// The number of information bits d that sending reads and receiving writes.
+    pub reads: usize,
+    /// The number of bits that sending writes and receiving reads.
+    pub writes: usize,
+    /// The identity of the base station is added to the parity bits.
+    pub has_identity: bool,
+    /// g(D)
+    pub generator: fn() -> Polynomial,
+    /// The parity is over so many of the first information bits.
+    pub covered: usize,
+    /// Where the parity bits stand in u: the first, and how many.
+    pub parity: (usize, usize),
+    /// The number of bits in u; each makes a pair of coded bits.
+    pub pairs: usize,
+    /// The eight flags of a block that is sent on four bursts; others are sent as they are coded.
+    pub flags: Option<[u8; 8]>,
+    /// The coded bits c of an identity and of d.
+    pub encoder: fn(&Channel, u16, &[u8]) -> Vec<u8>,
+    /// The verdict on received bits c under an identity.
+    pub decoder: fn(&Channel, u16, &[u8]) -> Received,
+}
+
+/// Speech, 3.1.2: g(D) = D^3 + D + 1, over d(0)..d(49)
+pub const SPEECH: Channel = Channel {
+    name: "speech",
+    reads: 260,
+    writes: 456,
+    has_identity: false,
+    generator: || from_powers(&[3, 1, 0]),
+    covered: 50,
+    parity: (91, 3),
+    pairs: 189,
+    flags: None,
+    encoder: coding::speech,
+    decoder: receiving::speech,
+};
+
+/// Control, 4.1.2 and 4.1.3: g(D) = (D^23 + 1)(D^17 + D^3 + 1)
+pub const CONTROL: Channel = Channel {
+    name: "control",
+    reads: 184,
+    writes: 456,
+    has_identity: false,
+    generator: || multiply(&from_powers(&[23, 0]), &from_powers(&[17, 3, 0])),
+    covered: 184,
+    parity: (184, 40),
+    pairs: 228,
+    flags: None,
+    encoder: coding::block,
+    decoder: receiving::block,
+};
+
+/// SACCH, 4.1.4 and 4.1.5: the control block over four bursts, hl(B) = hu(B) = 1
+pub const SACCH: Channel = Channel {
+    name: "sacch",
+    writes: 464,
+    flags: Some([1; 8]),
+    ..CONTROL
+};
+
+/// Access, 4.6: D^6 + D^5 + D^3 + D^2 + D + 1
+pub const ACCESS: Channel = Channel {
+    name: "access",
+    reads: 8,
+    writes: 36,
+    has_identity: true,
+    generator: || from_powers(&[6, 5, 3, 2, 1, 0]),
+    covered: 8,
+    parity: (8, 6),
+    pairs: 18,
+    flags: None,
+    encoder: coding::block,
+    decoder: receiving::block,
+};
+
+/// SCH, 4.7: D^10 + D^8 + D^6 + D^5 + D^4 + D^2 + 1; the pairs are those of k = 0..38
+pub const SCH: Channel = Channel {
+    name: "sch",
+    reads: 25,
+    writes: 78,
+    has_identity: false,
+    generator: || from_powers(&[10, 8, 6, 5, 4, 2, 0]),
+    covered: 25,
+    parity: (25, 10),
+    pairs: 39,
+    flags: None,
+    encoder: coding::block,
+    decoder: receiving::block,
+};
+
+/// All channels.
+pub static CHANNELS: [Channel; 5] = [SPEECH, CONTROL, SACCH, ACCESS, SCH];
+
+/// The channel of this name; nothing if there is none.
+pub fn named(name: &[u8]) -> Option<&'static Channel> {
+    let is_named = |channel: &&Channel| channel.name.as_bytes() == name;
+    CHANNELS.iter().find(is_named)
+}
+
+impl Channel {
+    /// The coded bits that are protected are the pairs: the first so many.
+    pub fn protected(&self) -> usize {
+        2 * self.pairs
+    }
+
+    /// Refusals in the order 1, 2, 3; so many bits must be lent.
+    fn check(&self, identity: u16, bits: &[u8], length: usize) -> Result<(), Refusal> {
+        check(bits, bits.len() == length)?;
+        if self.has_identity {
+            check_identity(identity)?;
+        }
+        Ok(())
+    }
+
+    /// The bits that are sent for the information bits d.
+    pub fn encode(&self, identity: u16, d: &[u8]) -> Result<Vec<u8>, Refusal> {
+        self.check(identity, d, self.reads)?;
+        let c = (self.encoder)(self, identity, d);
+        Ok(match self.flags {
+            Some(flags) => on_four_bursts(&c, &flags),
+            None => c,
+        })
+    }
+
+    /// The block that is received; the flags of four bursts must be bits, but are not used.
+    pub fn decode(&self, identity: u16, received: &[u8]) -> Received {
+        self.check(identity, received, self.writes)?;
+        match self.flags {
+            Some(_) => (self.decoder)(self, identity, &from_four_bursts(received)),
+            None => (self.decoder)(self, identity, received),
+        }
+    }
+}
+
+#[cfg(test)]
+mod tests {
+    use super::*;
+    use crate::chance::lists::{alter, random_bits};
+    use crate::chance::random::Random;
+    use crate::model::bits::{add, inverted, ones};
+    use crate::model::burst::BURST;
+    use crate::model::coding::convolve;
+    use crate::model::polynomial::{leaves_all_ones, parity};
+    use crate::model::refusal::Refusal::*;
+
+    /// Refusal 8 and the count.
+    fn bad_parity(count: usize) -> Received {
+        Err(BadParity { count })
+    }
+
+    #[test]
+    fn the_table_is_that_of_paper_01() {
+        let rows = CHANNELS.map(|channel| (channel.name, channel.reads, channel.writes));
+        let paper = [
+            ("speech", 260, 456),
+            ("control", 184, 456),
+            ("sacch", 184, 464),
+            ("access", 8, 36),
+            ("sch", 25, 78),
+        ];
+        assert_eq!(rows, paper);
+        let with_identity = CHANNELS.iter().filter(|channel| channel.has_identity);
+        let names: Vec<&str> = with_identity.map(|channel| channel.name).collect();
+        assert_eq!(names, ["access"]);
+    }
+
+    #[test]
+    fn the_columns_of_a_row_agree() {
+        for channel in CHANNELS {
+            let degree = (channel.generator)().len() - 1;
+            assert_eq!(channel.parity.1, degree, "{}", channel.name);
+            // Four zeros are the tail of u, and behind the pairs stand the unprotected bits.
+            let (first, number) = channel.parity;
+            assert!(first + number + 4 <= channel.pairs, "{}", channel.name);
+            let d = vec![0; channel.reads];
+            let coded = (channel.encoder)(&channel, 0, &d).len();
+            let unprotected = coded - channel.protected();
+            let (class_1, tail) = (channel.reads - unprotected, 4);
+            assert_eq!(class_1 + number + tail, channel.pairs, "{}", channel.name);
+        }
+    }
+
+    #[test]
+    fn channels_are_found_by_name() {
+        for channel in CHANNELS {
+            let found = named(channel.name.as_bytes()).unwrap();
+            assert_eq!(found.name, channel.name);
+        }
+        for name in ["", "spee", "speechx", "Speech", "facch", "speech?"] {
+            assert!(named(name.as_bytes()).is_none(), "{}", name);
+        }
+    }
+
+    #[test]
+    fn the_control_generator_is_the_product() {
+        // D^40 + D^26 + D^23 + D^17 + D^3 + 1
+        let product = from_powers(&[40, 26, 23, 17, 3, 0]);
+        assert_eq!((CONTROL.generator)(), product);
+    }
+
+    #[test]
+    fn parity_leaves_all_ones_for_random_blocks() {
+        let mut random = Random::new(5);
+        for channel in CHANNELS {
+            let g = (channel.generator)();
+            for _ in 0..200 {
+                let d = random_bits(&mut random, channel.covered);
+                assert!(leaves_all_ones(&[&d[..], &parity(&d, &g)].concat(), &g));
+            }
+        }
+    }
+
+    #[test]
+    fn sending_writes_bits_in_the_number_of_the_table() {
+        for channel in CHANNELS {
+            for bit in [0, 1] {
+                let sent = channel.encode(63, &vec![bit; channel.reads]).unwrap();
+                assert_eq!(sent.len(), channel.writes);
+                assert!(sent.iter().all(|&bit| bit <= 1));
+            }
+        }
+    }
+
+    #[test]
+    fn wrong_lengths_are_refused_first() {
+        for channel in CHANNELS {
+            let (reads, writes) = (channel.reads, channel.writes);
+            for length in [0, 1, reads - 1, reads + 1, writes, 2 * reads] {
+                let refused = channel.encode(64, &vec![2; length]);
+                assert_eq!(refused, Err(WrongLength), "{}", channel.name);
+            }
+            for length in [0, 1, reads, writes - 1, writes + 1, 2 * writes] {
+                let refused = channel.decode(64, &vec![2; length]);
+                assert_eq!(refused, Err(WrongLength), "{}", channel.name);
+            }
+        }
+        assert_eq!(SACCH.decode(0, &[2; 456]), Err(WrongLength));
+    }
+
+    #[test]
+    fn bytes_over_1_are_refused_next() {
+        for channel in CHANNELS {
+            for byte in [2, 3, 9, 255] {
+                // The last bit of speech is unprotected.
+                let mut d = vec![0; channel.reads];
+                d[channel.reads - 1] = byte;
+                assert_eq!(channel.encode(64, &d), Err(NotABit), "{}", channel.name);
+                let mut received = vec![0; channel.writes];
+                received[channel.writes - 1] = byte;
+                let refused = channel.decode(64, &received);
+                assert_eq!(refused, Err(NotABit), "{}", channel.name);
+            }
+            let all_wrong = (vec![2; channel.reads], vec![2; channel.writes]);
+            assert_eq!(channel.encode(64, &all_wrong.0), Err(NotABit));
+            assert_eq!(channel.decode(64, &all_wrong.1), Err(NotABit));
+        }
+    }
+
+    #[test]
+    fn identity_63_passes_and_64_is_refused() {
+        assert!(ACCESS.encode(63, &[1; 8]).is_ok());
+        assert!(ACCESS.decode(63, &[0; 36]).is_ok());
+        for identity in [64, 65_535] {
+            assert_eq!(ACCESS.encode(identity, &[1; 8]), Err(WrongIdentity));
+            assert_eq!(ACCESS.decode(identity, &[0; 36]), Err(WrongIdentity));
+        }
+    }
+
+    #[test]
+    fn other_channels_look_at_no_identity() {
+        for channel in CHANNELS.iter().filter(|channel| !channel.has_identity) {
+            let d = random_bits(&mut Random::new(39), channel.reads);
+            let sent = channel.encode(NO_IDENTITY, &d).unwrap();
+            for identity in [1, 63, 64, 65_535] {
+                assert_eq!(channel.encode(identity, &d), Ok(sent.clone()));
+                assert_eq!(channel.decode(identity, &sent), Ok((0, d.clone())));
+            }
+        }
+    }
+
+    #[test]
+    fn zeros_have_bad_parity_but_for_access_under_63() {
+        for channel in CHANNELS {
+            let identities = if channel.has_identity { 0..63 } else { 0..1 };
+            for identity in identities {
+                let refused = channel.decode(identity, &vec![0; channel.writes]);
+                assert_eq!(refused, bad_parity(0), "{}", channel.name);
+            }
+        }
+        assert_eq!(ACCESS.decode(63, &[0; 36]), Ok((0, vec![0; 8])));
+        assert_eq!(ACCESS.encode(63, &[0; 8]), Ok(vec![0; 36]));
+    }
+
+    #[test]
+    fn four_altered_bits_are_beyond_the_promise() {
+        // Zeros of an access burst, with bits 0, 1, 3, 6 set.
+        let four_set = [&[1, 1, 0, 1, 0, 0, 1][..], &[0; 29]].concat();
+        assert_eq!(ACCESS.decode(63, &four_set), bad_parity(3));
+    }
+
+    /// A random block of a channel: d, and the coded bits with so many of the protected altered.
+    fn altered_block(
+        random: &mut Random,
+        channel: &Channel,
+        identity: u16,
+        altered: usize,
+    ) -> (Vec<u8>, Vec<u8>) {
+        let d = random_bits(random, channel.reads);
+        let mut c = (channel.encoder)(channel, identity, &d);
+        alter(random, &mut c[..channel.protected()], altered);
+        (d, c)
+    }
+
+    /// The coded bits as they are received: with any flags, where the channel has flags.
+    fn received(random: &mut Random, channel: &Channel, c: Vec<u8>) -> Vec<u8> {
+        match channel.flags {
+            Some(_) => on_four_bursts(&c, &random_bits(random, 8)),
+            None => c,
+        }
+    }
+
+    #[test]
+    fn blocks_come_back_with_up_to_three_bits_altered_whatever_their_flags() {
+        let mut random = Random::new(33);
+        for channel in CHANNELS {
+            for altered in 0..=3 {
+                for identity in 0..64 {
+                    let (d, c) = altered_block(&mut random, &channel, identity, altered);
+                    let e = received(&mut random, &channel, c);
+                    let answer = channel.decode(identity, &e);
+                    assert_eq!(answer, Ok((altered, d)), "{}", channel.name);
+                    let other = (identity + 1 + random.below(63) as u16) % 64;
+                    if channel.has_identity {
+                        assert_eq!(channel.decode(other, &e), bad_parity(altered));
+                    }
+                }
+            }
+        }
+    }
+
+    #[test]
+    fn blocks_come_back_as_they_were_sent() {
+        let mut random = Random::new(40);
+        for channel in CHANNELS {
+            let d = random_bits(&mut random, channel.reads);
+            let sent = channel.encode(5, &d).unwrap();
+            assert_eq!(channel.decode(5, &sent), Ok((0, d)), "{}", channel.name);
+        }
+    }
+
+    #[test]
+    fn class_2_is_given_as_received() {
+        let d = random_bits(&mut Random::new(38), 260);
+        let c = SPEECH.encode(NO_IDENTITY, &d).unwrap();
+        let turned = [&c[..378], &inverted(&c[378..])].concat();
+        let expected = [&d[..182], &inverted(&d[182..])].concat();
+        assert_eq!(SPEECH.decode(NO_IDENTITY, &turned), Ok((0, expected)));
+    }
+
+    #[test]
+    fn each_parity_bit_counts() {
+        let mut random = Random::new(41);
+        for channel in CHANNELS {
+            let c = (channel.encoder)(&channel, 5, &vec![1; channel.reads]);
+            let e = received(&mut random, &channel, c.clone());
+            assert!(channel.decode(5, &e).is_ok());
+            let (first, number) = channel.parity;
+            for k in first..first + number {
+                let mut u = vec![0; channel.pairs];
+                u[k] = 1;
+                let mut wrong = c.clone();
+                add(&mut wrong, &convolve(&u));
+                let answer = channel.decode(5, &received(&mut random, &channel, wrong));
+                assert_eq!(answer, bad_parity(0), "u({}) of {}", k, channel.name);
+            }
+        }
+    }
+
+    #[test]
+    fn sacch_has_all_flags_1() {
+        let message = SACCH.encode(NO_IDENTITY, &[0; 184]).unwrap();
+        for e in message.chunks(BURST) {
+            assert_eq!(e[57..=58], [1, 1]);
+        }
+    }
+
+    #[test]
+    fn sacch_carries_every_bit_of_the_control_block() {
+        let d = random_bits(&mut Random::new(6), 184);
+        let control = CONTROL.encode(NO_IDENTITY, &d).unwrap();
+        let sacch = SACCH.encode(NO_IDENTITY, &d).unwrap();
+        assert_eq!(ones(&sacch), ones(&control) + 8);
+        assert_eq!(from_four_bursts(&sacch), control);
+    }
+
+    #[test]
+    fn flags_must_be_bits() {
+        for k in [57, 58, 173, 174, 289, 290, 405, 406] {
+            let mut e = SACCH.encode(NO_IDENTITY, &[0; 184]).unwrap();
+            e[k] = 2;
+            let refused = SACCH.decode(NO_IDENTITY, &e);
+            assert_eq!(refused, Err(NotABit), "e({})", k % 116);
+        }
+    }
+}

@@ -1,0 +1,111 @@
+//! The numbers given for a no, and the checks that every entry begins with.
+
+/// Why a call is refused. Where several apply: 1, 2, 3, 7, 5, 4, 6, 9, 8.
+#[derive(Clone, Copy, Debug, PartialEq)]
+pub enum Refusal {
+    /// A lent buffer has another length than the table says.
+    WrongLength,
+    /// A byte that is read as a bit is over 1.
+    NotABit,
+    /// The identity is over 63.
+    WrongIdentity,
+    /// The burst number is not the next one.
+    OutOfTurn,
+    /// 16,383 blocks are sent, or burst 65,535 is taken.
+    StreamFull,
+    /// End with no block sent.
+    NothingSent,
+    /// Send or end after end.
+    Ended,
+    /// The parity is bad; the count is returned besides.
+    BadParity { count: usize },
+    /// Four of the eight flags are 1.
+    FourFlags,
+}
+
+impl Refusal {
+    /// The number given.
+    pub fn number(self) -> u8 {
+        match self {
+            Refusal::WrongLength => 1,
+            Refusal::NotABit => 2,
+            Refusal::WrongIdentity => 3,
+            Refusal::OutOfTurn => 4,
+            Refusal::StreamFull => 5,
+            Refusal::NothingSent => 6,
+            Refusal::Ended => 7,
+            Refusal::BadParity { .. } => 8,
+            Refusal::FourFlags => 9,
+        }
+    }
+
+    /// The count, where it is returned besides.
+    pub fn count(self) -> Option<usize> {
+        match self {
+            Refusal::BadParity { count } => Some(count),
+            _ => None,
+        }
+    }
+}
+
+/// Refusal 1 for a wrong length, then refusal 2 for a byte over 1.
+pub fn check(bits: &[u8], right_length: bool) -> Result<(), Refusal> {
+    if !right_length {
+        return Err(Refusal::WrongLength);
+    }
+    if bits.iter().any(|&byte| byte > 1) {
+        return Err(Refusal::NotABit);
+    }
+    Ok(())
+}
+
+/// Refusal 3 for an identity over 63.
+pub fn check_identity(identity: u16) -> Result<(), Refusal> {
+    if identity > 63 {
+        return Err(Refusal::WrongIdentity);
+    }
+    Ok(())
+}
+
+#[cfg(test)]
+mod tests {
+    use super::Refusal::*;
+    use super::*;
+
+    #[test]
+    fn the_nine_numbers_are_those_of_paper_01() {
+        let refusals = [
+            WrongLength,
+            NotABit,
+            WrongIdentity,
+            OutOfTurn,
+            StreamFull,
+            NothingSent,
+            Ended,
+            BadParity { count: 3 },
+            FourFlags,
+        ];
+        let numbers: Vec<u8> = refusals.iter().map(|refusal| refusal.number()).collect();
+        assert_eq!(numbers, [1, 2, 3, 4, 5, 6, 7, 8, 9]);
+        // Of these, 8 alone returns a count besides.
+        for refusal in refusals {
+            let count = (refusal.number() == 8).then_some(3);
+            assert_eq!(refusal.count(), count);
+        }
+    }
+
+    #[test]
+    fn the_length_comes_before_the_bytes() {
+        assert_eq!(check(&[0, 2], false), Err(WrongLength));
+        assert_eq!(check(&[0, 2], true), Err(NotABit));
+        assert_eq!(check(&[0, 1], false), Err(WrongLength));
+        assert_eq!(check(&[0, 1], true), Ok(()));
+    }
+
+    #[test]
+    fn identity_63_passes_and_64_is_refused() {
+        assert_eq!(check_identity(63), Ok(()));
+        assert_eq!(check_identity(64), Err(WrongIdentity));
+        assert_eq!(check_identity(65_535), Err(WrongIdentity));
+    }
+}
