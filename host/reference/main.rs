@@ -24,28 +24,23 @@ mod sheet;
 mod text;
 
 use crate::kit::Kit;
-use crate::makers::{
-    full_lines, lesson_lines, received_lines, sent_lines, sheet_lines, view_lines,
-};
+use crate::makers::{Maker, MAKERS};
 use std::io::{Read, Result, Write};
 use std::process::ExitCode;
 
-const USAGE: &str = "usage: reference answer | sheet | make-lines SEED COUNT | \
-    make-received SEED COUNT | make-views SEED COUNT | make-lessons SEED COUNT | \
-    make-stream SEED BLOCKS | make-full SEED | make-sheet SEED COUNT";
-
 /// What the command line asks for.
-#[derive(Debug, PartialEq)]
 enum Task {
     Answer,
     Sheet,
-    MakeLines(u64, u64),
-    MakeReceived(u64, u64),
-    MakeViews(u64, u64),
-    MakeLessons(u64, u64),
-    MakeStream(u64, u64),
-    MakeFull(u64),
-    MakeSheet(u64, u64),
+    /// The seed and the count of lines to be made.
+    Make(&'static Maker, u64, usize),
+}
+
+/// The command lines that are known.
+fn usage() -> String {
+    let making = |maker: &Maker| format!(" | {} {}", maker.mode, maker.numbers);
+    let makers: String = MAKERS.iter().map(making).collect();
+    format!("usage: reference answer | sheet{}", makers)
 }
 
 /// The task that the arguments name; nothing if they name none.
@@ -54,23 +49,23 @@ fn task(arguments: &[String]) -> Option<Task> {
     match words.as_slice() {
         ["answer"] => Some(Task::Answer),
         ["sheet"] => Some(Task::Sheet),
-        ["make-full", seed] => Some(Task::MakeFull(seed.parse().ok()?)),
-        [make, seed, count] => making(make, seed.parse().ok()?, count.parse().ok()?),
-        _ => None,
+        [mode, numbers @ ..] => making(mode, numbers),
+        [] => None,
     }
 }
 
-/// The task of making lines; nothing if the word is none of those.
-fn making(make: &str, seed: u64, count: u64) -> Option<Task> {
-    match make {
-        "make-lines" => Some(Task::MakeLines(seed, count)),
-        "make-received" => Some(Task::MakeReceived(seed, count)),
-        "make-views" => Some(Task::MakeViews(seed, count)),
-        "make-lessons" => Some(Task::MakeLessons(seed, count)),
-        "make-stream" => Some(Task::MakeStream(seed, count)),
-        "make-sheet" => Some(Task::MakeSheet(seed, count)),
-        _ => None,
+/// The task of making lines; nothing if the mode or its numbers are none.
+fn making(mode: &str, numbers: &[&str]) -> Option<Task> {
+    let maker = MAKERS.iter().find(|maker| maker.mode == mode)?;
+    if numbers.len() != maker.numbers.split(' ').count() {
+        return None;
     }
+    let (seed, count) = match numbers {
+        [seed] => (seed.parse().ok()?, 0),
+        [seed, count] => (seed.parse().ok()?, count.parse().ok()?),
+        _ => return None,
+    };
+    Some(Task::Make(maker, seed, count))
 }
 
 /// All of standard input, any bytes.
@@ -88,17 +83,7 @@ fn run(task: Task) -> Result<()> {
             page::answers(&standard_input()?, |line| kit.answer(line))
         }
         Task::Sheet => page::answers(&standard_input()?, sheet::answer),
-        Task::MakeLines(seed, count) => page::made(seed, count, sent_lines::line),
-        Task::MakeReceived(seed, count) => page::made(seed, count, received_lines::line),
-        Task::MakeViews(seed, count) => page::made(seed, count, view_lines::line),
-        Task::MakeLessons(seed, count) => {
-            page::made_together(seed, |random| lesson_lines::lessons(random, count as usize))
-        }
-        Task::MakeStream(seed, blocks) => {
-            page::made_together(seed, |random| lesson_lines::stream(random, blocks as usize))
-        }
-        Task::MakeFull(seed) => page::made_together(seed, full_lines::lines),
-        Task::MakeSheet(seed, count) => page::made(seed, count, sheet_lines::line),
+        Task::Make(maker, seed, count) => maker.page(seed, count),
     };
     let mut paper = std::io::stdout();
     paper.write_all(&output)?;
@@ -110,7 +95,7 @@ fn main() -> ExitCode {
     let arguments: Vec<String> = std::env::args().skip(1).collect();
     let done = match task(&arguments) {
         Some(task) => run(task).map_err(|error| error.to_string()),
-        None => Err(USAGE.to_string()),
+        None => Err(usage()),
     };
     match done {
         Ok(()) => ExitCode::SUCCESS,
@@ -131,23 +116,36 @@ mod tests {
         task(&arguments)
     }
 
+    /// The command line makes lines with this maker, this seed and this count.
+    fn makes(command: &str, mode: &str, seed: u64, count: usize) {
+        match task_of(command) {
+            Some(Task::Make(maker, found_seed, found_count)) => {
+                let found = (maker.mode, found_seed, found_count);
+                assert_eq!(found, (mode, seed, count), "{}", command);
+            }
+            _ => panic!("{}", command),
+        }
+    }
+
     #[test]
     fn the_nine_commands_are_known() {
-        assert_eq!(task_of("answer"), Some(Task::Answer));
-        assert_eq!(task_of("sheet"), Some(Task::Sheet));
-        assert_eq!(task_of("make-lines 7 100"), Some(Task::MakeLines(7, 100)));
-        assert_eq!(
-            task_of("make-received 9 300"),
-            Some(Task::MakeReceived(9, 300))
-        );
-        assert_eq!(task_of("make-views 6 400"), Some(Task::MakeViews(6, 400)));
-        assert_eq!(
-            task_of("make-lessons 5 500"),
-            Some(Task::MakeLessons(5, 500))
-        );
-        assert_eq!(task_of("make-stream 4 600"), Some(Task::MakeStream(4, 600)));
-        assert_eq!(task_of("make-full 3"), Some(Task::MakeFull(3)));
-        assert_eq!(task_of("make-sheet 8 200"), Some(Task::MakeSheet(8, 200)));
+        assert!(matches!(task_of("answer"), Some(Task::Answer)));
+        assert!(matches!(task_of("sheet"), Some(Task::Sheet)));
+        makes("make-lines 7 100", "make-lines", 7, 100);
+        makes("make-received 9 300", "make-received", 9, 300);
+        makes("make-views 6 400", "make-views", 6, 400);
+        makes("make-lessons 5 500", "make-lessons", 5, 500);
+        makes("make-stream 4 600", "make-stream", 4, 600);
+        makes("make-full 3", "make-full", 3, 0);
+        makes("make-sheet 8 200", "make-sheet", 8, 200);
+    }
+
+    #[test]
+    fn the_usage_names_them() {
+        let words = "usage: reference answer | sheet | make-lines SEED COUNT | \
+            make-received SEED COUNT | make-views SEED COUNT | make-lessons SEED COUNT | \
+            make-stream SEED BLOCKS | make-full SEED | make-sheet SEED COUNT";
+        assert_eq!(usage(), words);
     }
 
     #[test]
@@ -168,7 +166,7 @@ mod tests {
             "make-full x",
             "make-full 7 1",
         ] {
-            assert_eq!(task_of(command), None, "{}", command);
+            assert!(task_of(command).is_none(), "{}", command);
         }
     }
 }

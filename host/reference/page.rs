@@ -1,7 +1,5 @@
 //! A page is many lines. A line is any bytes but 10 and ends in byte 10.
 
-use crate::chance::random::Random;
-
 /// The lines of a page; a last line without its newline counts if it is not empty.
 fn lines_of(page: &[u8]) -> Vec<&[u8]> {
     let mut lines: Vec<&[u8]> = page.split(|&byte| byte == 10).collect();
@@ -20,25 +18,6 @@ pub fn answers(page: &[u8], mut answer: impl FnMut(&[u8]) -> String) -> Vec<u8> 
         answers.push(10);
     }
     answers
-}
-
-/// A page of made lines, each made by itself.
-pub fn made(seed: u64, count: u64, line: fn(&mut Random) -> Vec<u8>) -> Vec<u8> {
-    made_together(seed, |random| (0..count).map(|_| line(random)).collect())
-}
-
-/// A page of lines that are made together; about one page in two lacks the last newline.
-pub fn made_together(seed: u64, lines: impl FnOnce(&mut Random) -> Vec<Vec<u8>>) -> Vec<u8> {
-    let mut random = Random::new(seed);
-    let mut page = Vec::new();
-    for line in lines(&mut random) {
-        page.extend(line);
-        page.push(10);
-    }
-    if random.one_in(2) {
-        page.pop();
-    }
-    page
 }
 
 #[cfg(test)]
@@ -67,18 +46,5 @@ mod tests {
     #[test]
     fn other_line_ends_are_part_of_the_line() {
         assert_eq!(lines_of(b"a\r\nb\0c\n"), [&b"a\r"[..], b"b\0c"]);
-    }
-
-    #[test]
-    fn some_made_pages_lack_the_last_newline() {
-        let line = |_: &mut Random| b"x".to_vec();
-        let lacking = (0..100)
-            .filter(|&seed| made(seed, 3, line) == b"x\nx\nx")
-            .count();
-        let ending = (0..100)
-            .filter(|&seed| made(seed, 3, line) == b"x\nx\nx\n")
-            .count();
-        assert_eq!(lacking + ending, 100);
-        assert!(lacking > 20 && ending > 20);
     }
 }

@@ -3,9 +3,9 @@
 
 use crate::chance::cable;
 use crate::chance::random::Random;
-use crate::makers::bench::{block, send, sent_bursts, take};
-use crate::makers::sent_lines::characters;
+use crate::makers::lesson::{block, send, sent_bursts, take};
 use crate::model::sending_stream::MOST_BLOCKS;
+use crate::text::characters;
 
 /// The lines of one full stream.
 pub fn lines(random: &mut Random) -> Vec<Vec<u8>> {

@@ -2,16 +2,16 @@
 //! order, and calls that are refused come in between.
 
 use crate::chance::random::Random;
-use crate::makers::bench::Bench;
+use crate::makers::lesson::Lesson;
 use crate::makers::refused_calls;
 use crate::model::sending_stream::MOST_BLOCKS;
 
 /// So many lines of lessons, each with fresh streams; the kit's are so for the first.
 pub fn lessons(random: &mut Random, count: usize) -> Vec<Vec<u8>> {
-    let mut lines = lesson(random);
+    let mut lines = any_lesson(random);
     while lines.len() < count {
         lines.push(b"fresh".to_vec());
-        lines.extend(lesson(random));
+        lines.extend(any_lesson(random));
     }
     lines.truncate(count);
     lines
@@ -19,16 +19,16 @@ pub fn lessons(random: &mut Random, count: usize) -> Vec<Vec<u8>> {
 
 /// One stream of so many blocks, at most 16,383, ended and taken to its last burst and beyond.
 pub fn stream(random: &mut Random, blocks: usize) -> Vec<Vec<u8>> {
-    let mut bench = Bench::new(random, blocks.min(MOST_BLOCKS));
+    let mut lesson = Lesson::new(random, blocks.min(MOST_BLOCKS));
     // The end is refused before the first block.
     let mut lines = vec![b"fresh".to_vec(), b"end".to_vec()];
-    lines.extend(carried(random, &mut bench, blocks > 0));
-    lines.extend(beyond(random, &mut bench, 12));
+    lines.extend(carried(random, &mut lesson, blocks > 0));
+    lines.extend(beyond(random, &mut lesson, 12));
     lines
 }
 
 /// One lesson: none, few or more blocks, mostly ended, and some bursts that no one sent.
-fn lesson(random: &mut Random) -> Vec<Vec<u8>> {
+fn any_lesson(random: &mut Random) -> Vec<Vec<u8>> {
     let blocks = match random.below(12) {
         0 => 0,
         1..=3 => 1,
@@ -36,24 +36,24 @@ fn lesson(random: &mut Random) -> Vec<Vec<u8>> {
         9 | 10 => 6 + random.below(10),
         _ => 20 + random.below(20),
     };
-    let mut bench = Bench::new(random, blocks);
+    let mut lesson = Lesson::new(random, blocks);
     let ends = blocks > 0 && !random.one_in(8);
-    let mut lines = carried(random, &mut bench, ends);
+    let mut lines = carried(random, &mut lesson, ends);
     let unsent = random.below(10);
-    lines.extend(beyond(random, &mut bench, unsent));
+    lines.extend(beyond(random, &mut lesson, unsent));
     lines
 }
 
 /// The lines that send a stream's blocks and take its bursts, with others in between.
-fn carried(random: &mut Random, bench: &mut Bench, ends: bool) -> Vec<Vec<u8>> {
+fn carried(random: &mut Random, lesson: &mut Lesson, ends: bool) -> Vec<Vec<u8>> {
     // How often the receiver comes first where both could go on.
     let takes_of_ten = random.pick(&[1, 8, 10]);
-    let mut lines = vec![refused_calls::refused_by_sender(random, bench)];
+    let mut lines = vec![refused_calls::refused_by_sender(random, lesson)];
     loop {
         while random.one_in(4) {
-            lines.push(refused_calls::line(random, bench));
+            lines.push(refused_calls::line(random, lesson));
         }
-        match next(random, bench, ends, takes_of_ten) {
+        match next(random, lesson, ends, takes_of_ten) {
             Some(line) => lines.push(line),
             None => return lines,
         }
@@ -63,31 +63,31 @@ fn carried(random: &mut Random, bench: &mut Bench, ends: bool) -> Vec<Vec<u8>> {
 /// The next step of the receiver or of the sender; nothing if both are done.
 fn next(
     random: &mut Random,
-    bench: &mut Bench,
+    lesson: &mut Lesson,
     ends: bool,
     takes_of_ten: usize,
 ) -> Option<Vec<u8>> {
-    let done = bench.all_sent() && (bench.ended || !ends);
-    if bench.has_burst() && (done || random.below(10) < takes_of_ten) {
-        Some(bench.take_next(random))
-    } else if !bench.all_sent() {
-        Some(bench.send_next())
+    let done = lesson.all_sent() && (lesson.ended || !ends);
+    if lesson.has_burst() && (done || random.below(10) < takes_of_ten) {
+        Some(lesson.take_next(random))
+    } else if !lesson.all_sent() {
+        Some(lesson.send_next())
     } else if !done {
-        Some(bench.end())
+        Some(lesson.end())
     } else {
         None
     }
 }
 
 /// Bursts that no one sent, taken after the others, with refused calls in between.
-fn beyond(random: &mut Random, bench: &mut Bench, number: usize) -> Vec<Vec<u8>> {
+fn beyond(random: &mut Random, lesson: &mut Lesson, number: usize) -> Vec<Vec<u8>> {
     let mut lines = Vec::new();
     for _ in 0..number {
-        lines.push(refused_calls::line(random, bench));
-        lines.push(refused_calls::refused_by_sender(random, bench));
-        lines.push(bench.take_unsent(random));
+        lines.push(refused_calls::line(random, lesson));
+        lines.push(refused_calls::refused_by_sender(random, lesson));
+        lines.push(lesson.take_unsent(random));
     }
-    lines.push(refused_calls::line(random, bench));
+    lines.push(refused_calls::line(random, lesson));
     lines
 }
 

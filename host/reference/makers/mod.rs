@@ -1,10 +1,113 @@
 //! The makers of lines for the kit and for the access sheet.
 
-pub mod bench;
-pub mod full_lines;
-pub mod lesson_lines;
-pub mod received_lines;
-pub mod refused_calls;
-pub mod sent_lines;
-pub mod sheet_lines;
-pub mod view_lines;
+mod fields;
+mod full_lines;
+mod lesson;
+mod lesson_lines;
+mod received_lines;
+mod refused_calls;
+mod request;
+mod sent_lines;
+mod sheet_lines;
+#[cfg(test)]
+mod sorts;
+mod view_lines;
+
+use crate::chance::random::Random;
+
+/// A mode of the command line that makes lines.
+pub struct Maker {
+    pub mode: &'static str,
+    /// The numbers behind the mode, as the usage calls them: a seed, and mostly how many.
+    pub numbers: &'static str,
+    /// So many lines, without their newlines.
+    lines: fn(&mut Random, usize) -> Vec<Vec<u8>>,
+}
+
+/// All makers.
+pub static MAKERS: [Maker; 7] = [
+    Maker {
+        mode: "make-lines",
+        numbers: "SEED COUNT",
+        lines: |random, count| each(random, count, sent_lines::line),
+    },
+    Maker {
+        mode: "make-received",
+        numbers: "SEED COUNT",
+        lines: |random, count| each(random, count, received_lines::line),
+    },
+    Maker {
+        mode: "make-views",
+        numbers: "SEED COUNT",
+        lines: |random, count| each(random, count, view_lines::line),
+    },
+    Maker {
+        mode: "make-lessons",
+        numbers: "SEED COUNT",
+        lines: lesson_lines::lessons,
+    },
+    Maker {
+        mode: "make-stream",
+        numbers: "SEED BLOCKS",
+        lines: lesson_lines::stream,
+    },
+    Maker {
+        mode: "make-full",
+        numbers: "SEED",
+        lines: |random, _| full_lines::lines(random),
+    },
+    Maker {
+        mode: "make-sheet",
+        numbers: "SEED COUNT",
+        lines: |random, count| each(random, count, sheet_lines::line),
+    },
+];
+
+/// So many lines, each made by itself.
+fn each(random: &mut Random, count: usize, line: impl Fn(&mut Random) -> Vec<u8>) -> Vec<Vec<u8>> {
+    (0..count).map(|_| line(random)).collect()
+}
+
+impl Maker {
+    /// A page of lines from a seed; about one page in two lacks the last newline.
+    pub fn page(&self, seed: u64, count: usize) -> Vec<u8> {
+        let mut random = Random::new(seed);
+        let mut page = Vec::new();
+        for line in (self.lines)(&mut random, count) {
+            page.extend(line);
+            page.push(10);
+        }
+        if random.one_in(2) {
+            page.pop();
+        }
+        page
+    }
+}
+
+#[cfg(test)]
+mod tests {
+    use super::*;
+
+    #[test]
+    fn some_made_pages_lack_the_last_newline() {
+        let maker = Maker {
+            mode: "",
+            numbers: "",
+            lines: |random, count| each(random, count, |_| b"x".to_vec()),
+        };
+        let pages: Vec<Vec<u8>> = (0..100).map(|seed| maker.page(seed, 3)).collect();
+        let lacking = pages.iter().filter(|page| *page == b"x\nx\nx").count();
+        let ending = pages.iter().filter(|page| *page == b"x\nx\nx\n").count();
+        assert_eq!(lacking + ending, 100);
+        assert!(lacking > 20 && ending > 20);
+    }
+
+    #[test]
+    fn a_seed_gives_the_same_page_again() {
+        for maker in MAKERS.iter().filter(|maker| maker.mode != "make-full") {
+            let page = maker.page(1, 20);
+            assert_eq!(maker.page(1, 20), page, "{}", maker.mode);
+            assert_ne!(maker.page(2, 20), page, "{}", maker.mode);
+        }
+    }
+}

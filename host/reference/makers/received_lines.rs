@@ -3,88 +3,46 @@
 
 use crate::chance::lists;
 use crate::chance::random::Random;
-use crate::makers::sent_lines::{self as lines, Request};
-use crate::model::burst;
-use crate::model::{bits, channel, coding};
-
-/// A receiving verb.
-#[derive(Clone, Copy)]
-struct Kind {
-    word: &'static str,
-    /// The number of bits that it reads.
-    received: usize,
-    /// The number of information bits d.
-    information: usize,
-    /// The number of bits in u.
-    n: usize,
-    /// Where the parity bits stand in u: the first, and how many.
-    parity: (usize, usize),
-}
-
-/// A kind from its columns.
-const fn kind(
-    word: &'static str,
-    received: usize,
-    information: usize,
-    n: usize,
-    parity: (usize, usize),
-) -> Kind {
-    Kind {
-        word,
-        received,
-        information,
-        n,
-        parity,
-    }
-}
-
-const KINDS: [Kind; 5] = [
-    kind("speech?", 456, 260, 189, (91, 3)),
-    kind("control?", 456, 184, 228, (184, 40)),
-    SACCH,
-    ACCESS,
-    kind("sch?", 78, 25, 39, (25, 10)),
-];
-const SACCH: Kind = kind("sacch?", 464, 184, 228, (184, 40));
-const ACCESS: Kind = kind("access?", 36, 8, 18, (8, 6));
+use crate::makers::fields;
+use crate::makers::request::Request;
+use crate::model::bits::add;
+use crate::model::burst::on_four_bursts;
+use crate::model::channel::{Channel, ACCESS, CHANNELS, SACCH};
+use crate::model::coding::convolve;
+use crate::text;
 
 /// One random receiving line, without its newline; of a hundred, 75 are decoded.
 pub fn line(random: &mut Random) -> Vec<u8> {
     match random.below(100) {
-        0..=74 => any_decoded(random).line(),
-        75..=79 => wrong_length(random),
-        80..=83 => wrong_bits(random),
+        0..=74 => any(random).line(),
+        75..=79 => any(random).wrong_length(random, change_length),
+        80..=83 => any(random).wrong_bits(random),
         84 => wrong_flag(random),
-        85..=86 => wrong_identity(random),
-        87..=88 => bad_number(random),
+        85..=86 => decoded(random, &ACCESS).high_identity(random),
+        87..=88 => decoded(random, &ACCESS).bad_number(random),
         89..=91 => several_wrong(random),
         92..=93 => wrong_word(random),
         94 => sending_word(random),
-        95..=96 => wrong_fields(random),
-        97 => long_line(random),
-        _ => garbage(random),
+        95..=96 => any(random).wrong_fields(random, b"access? "),
+        97 => any(random).long_line(random),
+        _ => any(random).garbled(random),
     }
 }
 
-/// A request of any kind that will be decoded.
-fn any_decoded(random: &mut Random) -> Request {
-    let kind = random.pick(&KINDS);
-    decoded(random, kind)
+/// A request of any channel that will be decoded.
+fn any(random: &mut Random) -> Request {
+    let channel = random.pick(&CHANNELS);
+    decoded(random, &channel)
 }
 
 /// A request that will be decoded, with a good verdict or a bad one.
-fn decoded(random: &mut Random, kind: Kind) -> Request {
+fn decoded(random: &mut Random, channel: &Channel) -> Request {
     let sender = random.below(64);
     let receiver = receiver_of(random, sender);
-    let mut list = coded_list(random, kind, sender);
-    if kind.word == SACCH.word {
-        list = on_bursts(random, &list);
-    }
-    Request {
-        word: kind.word,
-        identity: lines::number_of(random, receiver),
-        bits: lines::characters(&list),
-    }
+    let c = coded_list(random, channel, sender);
+    let list = as_sent(random, channel, c);
+    let identity = fields::number_of(random, receiver);
+    Request::receiving(channel, identity, text::characters(&list))
 }
 
 /// The sender's identity mostly, or one that differs in one bit, or any.
@@ -97,18 +55,18 @@ fn receiver_of(random: &mut Random, sender: usize) -> usize {
 }
 
 /// Coded bits as received, before they are put on bursts.
-fn coded_list(random: &mut Random, kind: Kind, sender: usize) -> Vec<u8> {
-    let mut list = sent(random, kind, sender);
+fn coded_list(random: &mut Random, channel: &Channel, sender: usize) -> Vec<u8> {
+    let mut list = coded(random, channel, sender);
     match random.below(20) {
         0 => return lists::random_bits(random, list.len()),
         1 => return lists::few_turned(random, list.len()),
         2 => return lists::pattern(random, list.len()),
         3..=5 => {
-            lists::move_midway(random, &mut list, kind.n);
+            lists::move_midway(random, &mut list, channel.pairs);
             alter_few(random, &mut list);
         }
         6 | 7 => {
-            spoil_parity(random, kind, &mut list);
+            spoil_parity(random, channel, &mut list);
             alter_few(random, &mut list);
         }
         _ => alter_some(random, &mut list),
@@ -116,11 +74,9 @@ fn coded_list(random: &mut Random, kind: Kind, sender: usize) -> Vec<u8> {
     list
 }
 
-/// The coded bits c of a random block; SACCH has those of the control block.
-fn sent(random: &mut Random, kind: Kind, sender: usize) -> Vec<u8> {
-    let characters = lines::good_bits(random, kind.information);
-    let d: Vec<u8> = characters.iter().map(|bit| bit - b'0').collect();
-    let channel = channel::named(kind.word.trim_end_matches('?').as_bytes()).unwrap();
+/// The coded bits c of a random block.
+fn coded(random: &mut Random, channel: &Channel, sender: usize) -> Vec<u8> {
+    let d = text::bits(&fields::good_bits(random, channel.reads));
     (channel.encoder)(channel, sender as u16, &d)
 }
 
@@ -143,185 +99,102 @@ fn alter_few(random: &mut Random, list: &mut [u8]) {
 }
 
 /// Adds the pairs of wrong parity bits, so that the coded bits are those of another candidate.
-fn spoil_parity(random: &mut Random, kind: Kind, list: &mut [u8]) {
-    let (first, number) = kind.parity;
-    let mut u = vec![0; kind.n];
+fn spoil_parity(random: &mut Random, channel: &Channel, list: &mut [u8]) {
+    let (first, number) = channel.parity;
+    let mut u = vec![0; channel.pairs];
     for _ in 0..=random.below(3) {
         u[first + random.below(number)] = 1;
     }
-    bits::add(list, &coding::convolve(&u));
+    add(list, &convolve(&u));
 }
 
-/// Four bursts; their flags are all 1, all 0 or random.
-fn on_bursts(random: &mut Random, c: &[u8]) -> Vec<u8> {
+/// The coded bits, on four bursts where the channel has flags: all 1, all 0 or random.
+fn as_sent(random: &mut Random, channel: &Channel, c: Vec<u8>) -> Vec<u8> {
+    if channel.flags.is_none() {
+        return c;
+    }
     let flags = match random.below(4) {
         0 => lists::random_bits(random, 8),
         1 => vec![0; 8],
         _ => vec![1; 8],
     };
-    burst::on_four_bursts(c, &flags)
+    on_four_bursts(&c, &flags)
 }
 
 /// A length other than the right one; the longest fills the line up to its limit.
-fn another_length(random: &mut Random, kind: Kind, longest: usize) -> usize {
-    let right = kind.received;
-    let other = random.pick(&KINDS);
+fn another_length(random: &mut Random, right: usize, longest: usize) -> usize {
+    let other = random.pick(&CHANNELS);
     let length = match random.below(10) {
         0 => right - 1,
         1 => right + 1,
         2 => random.pick(&[right - 2, right + 2, right / 2, 2 * right]),
         3 => 0,
-        4 => other.received,
-        5 => other.information,
+        4 => other.writes,
+        5 => other.reads,
         // The protected bits alone, or bits in u.
-        6 => random.pick(&[2 * other.n, other.n]),
+        6 => random.pick(&[other.protected(), other.pairs]),
         // The right length to one who counts in a single byte.
         7 => (right + 256) % 512,
         8 => 2 * random.below(longest / 2) + 1,
         _ => random.below(longest + 1),
     };
-    if length == right {
-        right + 1
-    } else {
-        length
-    }
+    fields::other_than(right, length)
 }
 
 /// Cuts the bits short or draws them out to another length.
-fn change_length(random: &mut Random, kind: Kind, request: &mut Request) {
-    let longest = 1000 - (request.line().len() - request.bits.len());
-    let length = another_length(random, kind, longest);
-    request.bits.truncate(length);
-    let missing = length - request.bits.len();
-    request.bits.extend(lines::good_bits(random, missing));
-}
-
-/// Refusal 1: any verb with another number of bits.
-fn wrong_length(random: &mut Random) -> Vec<u8> {
-    let kind = random.pick(&KINDS);
-    let mut request = decoded(random, kind);
-    change_length(random, kind, &mut request);
-    request.line()
-}
-
-/// Refusal 2: any verb with wrong characters among the bits.
-fn wrong_bits(random: &mut Random) -> Vec<u8> {
-    let mut request = any_decoded(random);
-    lines::spoil(random, &mut request.bits);
-    request.line()
+fn change_length(random: &mut Random, request: &mut Request) {
+    let right = request.bits.len();
+    let longest = 1000 - (request.line().len() - right);
+    let length = another_length(random, right, longest);
+    fields::fit(random, &mut request.bits, length);
 }
 
 /// Refusal 2: SACCH with a wrong character at a flag, e(57) or e(58) of a burst.
 fn wrong_flag(random: &mut Random) -> Vec<u8> {
-    let mut request = decoded(random, SACCH);
+    let mut request = decoded(random, &SACCH);
     let flag = 116 * random.below(4) + 57 + random.below(2);
-    request.bits[flag] = lines::wrong_character(random);
+    request.bits[flag] = fields::wrong_character(random);
     request.line()
 }
 
-/// Refusal 3: access under an identity over 63.
-fn wrong_identity(random: &mut Random) -> Vec<u8> {
-    let mut request = decoded(random, ACCESS);
-    request.identity = lines::high_identity(random);
-    request.line()
-}
-
-/// Two or three things wrong at once, so that the order of the refusals shows.
+/// Two or three things wrong at once, in access requests more than in others.
 fn several_wrong(random: &mut Random) -> Vec<u8> {
-    let any = random.pick(&KINDS);
-    let kind = random.pick(&[ACCESS, any]);
-    let mut request = decoded(random, kind);
-    let right_part = random.below(4);
-    if right_part != 1 {
-        change_length(random, kind, &mut request);
-    }
-    if right_part != 2 {
-        lines::spoil(random, &mut request.bits);
-    }
-    if right_part != 3 {
-        request.identity = lines::high_identity(random);
-    }
-    request.line()
-}
-
-/// Access with a bad number; its bits are right, wrong or too many.
-fn bad_number(random: &mut Random) -> Vec<u8> {
-    let mut request = decoded(random, ACCESS);
-    request.identity = lines::no_number(random);
-    match random.below(6) {
-        0 => lines::spoil(random, &mut request.bits),
-        1 => request.bits.push(b'0'),
-        _ => {}
-    }
-    request.line()
+    let any = random.pick(&CHANNELS);
+    let channel = random.pick(&[ACCESS, any]);
+    decoded(random, &channel).several_wrong(random, change_length)
 }
 
 /// The verb's word without its question mark.
-fn stem(request: &Request) -> &'static str {
-    request.word.trim_end_matches('?')
+fn stem(request: &Request) -> &[u8] {
+    request.word.strip_suffix(b"?").unwrap_or(&request.word)
 }
 
 /// An unknown word before good arguments.
 fn wrong_word(random: &mut Random) -> Vec<u8> {
     const UNKNOWN: [&[u8]; 6] = [b"rach?", b"facch?", b"view", b"?", b"", b"decode"];
-    let request = any_decoded(random);
+    let request = any(random);
     let stem = stem(&request);
     let word = match random.below(6) {
         0 => random.pick(&UNKNOWN).to_vec(),
-        1 => [stem.as_bytes(), b"??"].concat(),
-        2 => [b"?", stem.as_bytes()].concat(),
-        3 => [stem.as_bytes(), b" ?"].concat(),
-        _ => [&lines::changed_word(random, stem)[..], b"?"].concat(),
+        1 => [stem, b"??"].concat(),
+        2 => [b"?", stem].concat(),
+        3 => [stem, b" ?"].concat(),
+        _ => [&fields::changed_word(random, stem)[..], b"?"].concat(),
     };
     request.line_with(&word)
 }
 
 /// Refusal 1: the sending verb reads another number of bits.
 fn sending_word(random: &mut Random) -> Vec<u8> {
-    let request = any_decoded(random);
-    request.line_with(stem(&request).as_bytes())
-}
-
-/// Too few or too many arguments, or spaces where none belong.
-fn wrong_fields(random: &mut Random) -> Vec<u8> {
-    let request = any_decoded(random);
-    lines::wrong_fields_of(random, &request, b"access? ")
-}
-
-/// A line at the limit of 1,000 bytes or over it.
-fn long_line(random: &mut Random) -> Vec<u8> {
-    let mut request = any_decoded(random);
-    let beyond = 1002 + random.below(7000);
-    let length = random.pick(&[999, 1000, 1001, beyond]);
-    let missing = length - request.line().len();
-    request.bits.extend(lines::good_bits(random, missing));
-    request.line()
-}
-
-/// Random bytes after a good word, or a line that will be decoded with one byte changed.
-fn garbage(random: &mut Random) -> Vec<u8> {
-    let request = any_decoded(random);
-    let line = request.line();
-    lines::garbled(random, line, request.word.len() + 1)
+    let request = any(random);
+    request.line_with(stem(&request))
 }
 
 #[cfg(test)]
 mod tests {
     use super::*;
     use crate::kit::answer;
-
-    /// The answers to so many lines of one sort.
-    fn answers(seed: u64, number: usize, made: fn(&mut Random) -> Vec<u8>) -> Vec<String> {
-        let mut random = Random::new(seed);
-        (0..number).map(|_| answer(&made(&mut random))).collect()
-    }
-
-    /// Every line of one sort is answered as its sort says.
-    fn all_are(made: fn(&mut Random) -> Vec<u8>, expected: &str) {
-        for answer in answers(41, 1000, made) {
-            assert_eq!(answer, expected);
-        }
-    }
+    use crate::makers::sorts::{all_are, answers, no_newline, times};
 
     /// The answer of a decoding: a good block, or refusal 8.
     fn is_decoded(answer: &str) -> bool {
@@ -335,43 +208,38 @@ mod tests {
 
     #[test]
     fn each_wrong_sort_is_wrong_as_meant() {
-        all_are(wrong_length, "refused 1");
-        all_are(sending_word, "refused 1");
-        all_are(wrong_bits, "refused 2");
-        all_are(wrong_flag, "refused 2");
-        all_are(wrong_identity, "refused 3");
-        all_are(bad_number, "?");
-        all_are(wrong_word, "?");
+        let wrong_length = |random: &mut Random| any(random).wrong_length(random, change_length);
+        let wrong_bits = |random: &mut Random| any(random).wrong_bits(random);
+        let high_identity = |random: &mut Random| decoded(random, &ACCESS).high_identity(random);
+        let bad_number = |random: &mut Random| decoded(random, &ACCESS).bad_number(random);
+        all_are(41, 1000, wrong_length, "refused 1");
+        all_are(41, 1000, sending_word, "refused 1");
+        all_are(41, 1000, wrong_bits, "refused 2");
+        all_are(41, 1000, wrong_flag, "refused 2");
+        all_are(41, 1000, high_identity, "refused 3");
+        all_are(41, 1000, bad_number, "?");
+        all_are(41, 1000, wrong_word, "?");
     }
 
     #[test]
-    fn each_kind_is_decoded_well_and_badly() {
-        for kind in KINDS {
-            let mut random = Random::new(42);
-            let answers: Vec<String> = (0..50)
-                .map(|_| answer(&decoded(&mut random, kind).line()))
-                .collect();
+    fn each_channel_is_decoded_well_and_badly() {
+        for channel in CHANNELS {
+            let answers = answers(42, 50, |random| decoded(random, &channel).line());
             assert!(answers.iter().all(|answer| is_decoded(answer)));
             let good = answers.iter().filter(|answer| is_good(answer)).count();
-            assert!(good > 10 && good < 45, "{} {}", kind.word, good);
+            assert!(good > 10 && good < 45, "{} {}", channel.name, good);
         }
     }
 
     #[test]
     fn spoiled_parity_is_bad() {
-        for kind in KINDS {
+        for channel in CHANNELS {
             let mut random = Random::new(43);
-            let mut list = sent(&mut random, kind, 7);
-            spoil_parity(&mut random, kind, &mut list);
-            if kind.word == SACCH.word {
-                list = on_bursts(&mut random, &list);
-            }
-            let request = Request {
-                word: kind.word,
-                identity: b"7".to_vec(),
-                bits: lines::characters(&list),
-            };
-            assert_eq!(answer(&request.line()), "refused 8 0", "{}", kind.word);
+            let mut list = coded(&mut random, &channel, 7);
+            spoil_parity(&mut random, &channel, &mut list);
+            let list = as_sent(&mut random, &channel, list);
+            let request = Request::receiving(&channel, b"7".to_vec(), text::characters(&list));
+            assert_eq!(answer(&request.line()), "refused 8 0", "{}", channel.name);
         }
     }
 
@@ -379,21 +247,21 @@ mod tests {
     fn several_wrong_are_refused_in_each_way() {
         let answers = answers(44, 1000, several_wrong);
         for refusal in ["refused 1", "refused 2"] {
-            assert!(answers.iter().filter(|answer| *answer == refusal).count() > 100);
+            assert!(times(&answers, refusal) > 100);
         }
     }
 
     #[test]
     fn lines_at_the_limit_are_refused_and_those_over_it_not_read() {
-        let answers = answers(45, 200, long_line);
+        let answers = answers(45, 200, |random| any(random).long_line(random));
         for expected in ["refused 1", "?"] {
-            assert!(answers.iter().filter(|answer| *answer == expected).count() > 50);
+            assert!(times(&answers, expected) > 50);
         }
     }
 
     #[test]
     fn no_made_line_holds_a_newline() {
-        crate::makers::sent_lines::no_newline(46, 3000, line);
+        no_newline(46, 3000, line);
     }
 
     #[test]

@@ -2,38 +2,36 @@
 //! understood, and the verbs that call no stream.
 
 use crate::chance::random::Random;
-use crate::makers::bench::{self, Bench};
-use crate::makers::received_lines;
-use crate::makers::sent_lines as lines;
-use crate::makers::view_lines;
+use crate::makers::lesson::{block, send, take, take_numbered, Lesson};
+use crate::makers::{fields, received_lines, sent_lines, view_lines};
 use crate::model::burst::BURST;
 
-/// One random line that leaves the bench's streams as they are.
-pub fn line(random: &mut Random, bench: &Bench) -> Vec<u8> {
+/// One random line that leaves the lesson's streams as they are.
+pub fn line(random: &mut Random, lesson: &Lesson) -> Vec<u8> {
     match random.below(20) {
-        0..=5 => refused_by_sender(random, bench),
-        6..=13 => refused_by_receiver(random, bench),
-        14..=17 => not_understood(random, bench),
+        0..=5 => refused_by_sender(random, lesson),
+        6..=13 => refused_by_receiver(random, lesson),
+        14..=17 => not_understood(random, lesson),
         _ => no_stream(random),
     }
 }
 
 /// A send or an end that is refused.
-pub fn refused_by_sender(random: &mut Random, bench: &Bench) -> Vec<u8> {
+pub fn refused_by_sender(random: &mut Random, lesson: &Lesson) -> Vec<u8> {
     match random.below(6) {
         // Refusal 7, or refusal 6.
-        0 | 1 if bench.ended || bench.sent == 0 => b"end".to_vec(),
+        0 | 1 if lesson.ended || lesson.sent == 0 => b"end".to_vec(),
         // Refusal 7.
-        2 | 3 if bench.ended => bench::send(&bench::block(random, 2)),
-        0 | 2 | 4 => bench::send(&spoiled_block(random)),
-        _ => bench::send(&block_of_wrong_length(random)),
+        2 | 3 if lesson.ended => send(&block(random, 2)),
+        0 | 2 | 4 => send(&spoiled_block(random)),
+        _ => send(&block_of_wrong_length(random)),
     }
 }
 
 /// Refusal 2: a block with wrong characters.
 fn spoiled_block(random: &mut Random) -> Vec<u8> {
-    let mut d = bench::block(random, 2);
-    lines::spoil(random, &mut d);
+    let mut d = block(random, 2);
+    fields::spoil(random, &mut d);
     d
 }
 
@@ -60,38 +58,29 @@ fn another_length(random: &mut Random, right: usize) -> usize {
         5 => random.pick(&[right % 256, right + 256, right + 512]),
         _ => random.below(990),
     };
-    if length == right {
-        right + 1
-    } else {
-        length
-    }
+    fields::other_than(right, length)
 }
 
 /// Characters of bits, now and then with wrong ones among them.
 fn some_spoiled(random: &mut Random, length: usize) -> Vec<u8> {
-    let mut characters = lines::good_bits(random, length);
+    let mut characters = fields::good_bits(random, length);
     if random.one_in(4) {
-        lines::spoil(random, &mut characters);
+        fields::spoil(random, &mut characters);
     }
     characters
 }
 
 /// A take that is refused.
-fn refused_by_receiver(random: &mut Random, bench: &Bench) -> Vec<u8> {
-    let right = bench.next_number();
+fn refused_by_receiver(random: &mut Random, lesson: &Lesson) -> Vec<u8> {
+    let right = lesson.next_number();
     let wrong = another_number(random, right);
     let any = random.pick(&[right, right, wrong]);
     let (number, e) = match random.below(4) {
         0 => (any, burst_of_wrong_length(random)),
-        1 => (any, spoiled_burst(random, bench)),
-        _ => (wrong, bench.some_burst(random)),
+        1 => (any, spoiled_burst(random, lesson)),
+        _ => (wrong, lesson.some_burst(random)),
     };
-    take(random, number, &e)
-}
-
-/// The line that takes characters under a number, now and then with leading zeros.
-fn take(random: &mut Random, number: usize, e: &[u8]) -> Vec<u8> {
-    bench::take(&lines::number_of(random, number), e)
+    take_numbered(random, number, &e)
 }
 
 /// Refusal 4: one too high, one too low, repeated, far off, or the same in some of its bits.
@@ -121,27 +110,27 @@ fn burst_of_wrong_length(random: &mut Random) -> Vec<u8> {
 }
 
 /// Refusal 2: a burst with wrong characters, now and then at a flag alone.
-fn spoiled_burst(random: &mut Random, bench: &Bench) -> Vec<u8> {
-    let mut e = bench.some_burst(random);
+fn spoiled_burst(random: &mut Random, lesson: &Lesson) -> Vec<u8> {
+    let mut e = lesson.some_burst(random);
     if random.one_in(4) {
-        e[57 + random.below(2)] = lines::wrong_character(random);
+        e[57 + random.below(2)] = fields::wrong_character(random);
     } else {
-        lines::spoil(random, &mut e);
+        fields::spoil(random, &mut e);
     }
     e
 }
 
 /// A line that is not understood, though a call like it would be done.
-fn not_understood(random: &mut Random, bench: &Bench) -> Vec<u8> {
+fn not_understood(random: &mut Random, lesson: &Lesson) -> Vec<u8> {
     match random.below(6) {
         0 => random.pick(&WRONG_WORDS).to_vec(),
         1 => {
-            let word = random.pick(&["end", "fresh"]);
-            lines::changed_word(random, word)
+            let word = random.pick(&[&b"end"[..], b"fresh"]);
+            fields::changed_word(random, word)
         }
-        2 => bench::take(&lines::no_number(random), &bench.some_burst(random)),
-        3 => too_long(random, bench),
-        _ => wrong_fields(random, bench),
+        2 => take(&fields::no_number(random), &lesson.some_burst(random)),
+        3 => too_long(random, lesson),
+        _ => wrong_fields(random, lesson),
     }
 }
 
@@ -170,36 +159,36 @@ const WRONG_WORDS: [&[u8]; 20] = [
 ];
 
 /// A call that would be done: the next take, or a send.
-fn call(random: &mut Random, bench: &Bench) -> Vec<u8> {
+fn call(random: &mut Random, lesson: &Lesson) -> Vec<u8> {
     if random.one_in(2) {
-        bench::send(&bench::block(random, 2))
+        send(&block(random, 2))
     } else {
-        let e = bench.some_burst(random);
-        take(random, bench.next_number(), &e)
+        let e = lesson.some_burst(random);
+        take_numbered(random, lesson.next_number(), &e)
     }
 }
 
 /// A call with another word, an argument more or less, or a space too many.
-fn wrong_fields(random: &mut Random, bench: &Bench) -> Vec<u8> {
-    let line = call(random, bench);
+fn wrong_fields(random: &mut Random, lesson: &Lesson) -> Vec<u8> {
+    let line = call(random, lesson);
     let (word, rest) = line.split_at(4);
     match random.below(7) {
         0 => [&line[..], b" "].concat(),
         1 => [b" ", &line[..]].concat(),
-        2 => lines::double_space(random, &line),
+        2 => fields::double_space(random, &line),
         3 => [&line[..], b" 0"].concat(),
-        4 => [b"take ", &bench.some_burst(random)[..]].concat(),
+        4 => [b"take ", &lesson.some_burst(random)[..]].concat(),
         5 => [word, b"\t", &rest[1..]].concat(),
         _ => {
-            let word = random.pick(&["send", "take"]);
-            [&lines::changed_word(random, word)[..], rest].concat()
+            let word = random.pick(&[b"send", b"take"]);
+            [&fields::changed_word(random, word)[..], rest].concat()
         }
     }
 }
 
 /// A call drawn out to over 1,000 bytes.
-fn too_long(random: &mut Random, bench: &Bench) -> Vec<u8> {
-    let mut line = call(random, bench);
+fn too_long(random: &mut Random, lesson: &Lesson) -> Vec<u8> {
+    let mut line = call(random, lesson);
     let length = random.pick(&[1001, 1001, 1002, 1256, 4000]);
     line.resize(length, b'0');
     line
@@ -208,7 +197,7 @@ fn too_long(random: &mut Random, bench: &Bench) -> Vec<u8> {
 /// A line for a verb that calls no stream.
 fn no_stream(random: &mut Random) -> Vec<u8> {
     match random.below(3) {
-        0 => lines::line(random),
+        0 => sent_lines::line(random),
         1 => received_lines::line(random),
         _ => view_lines::line(random),
     }
@@ -218,16 +207,17 @@ fn no_stream(random: &mut Random) -> Vec<u8> {
 mod tests {
     use super::*;
     use crate::kit::Kit;
+    use crate::makers::sorts::no_newline;
 
-    /// What a kit answers to so many lines of one sort, made for a bench that has come as far.
+    /// What a kit answers to so many lines of one sort, made for a lesson that has come as far.
     fn answers(
         kit: &mut Kit,
-        bench: &Bench,
-        made: impl Fn(&mut Random, &Bench) -> Vec<u8>,
+        lesson: &Lesson,
+        made: impl Fn(&mut Random, &Lesson) -> Vec<u8>,
     ) -> Vec<String> {
         let mut random = Random::new(80);
         (0..1000)
-            .map(|_| kit.answer(&made(&mut random, bench)))
+            .map(|_| kit.answer(&made(&mut random, lesson)))
             .collect()
     }
 
@@ -241,66 +231,66 @@ mod tests {
         }
     }
 
-    /// A kit and a bench that have sent two blocks and taken five bursts; the bench may have ended.
-    fn under_way(ended: bool) -> (Kit, Bench) {
+    /// A kit and a lesson that have sent two blocks and taken five bursts; the lesson may have ended.
+    fn under_way(ended: bool) -> (Kit, Lesson) {
         let mut random = Random::new(81);
         let mut kit = Kit::fresh();
-        let mut bench = Bench::new(&mut random, 2);
-        let mut lines = vec![bench.send_next(), bench.send_next()];
+        let mut lesson = Lesson::new(&mut random, 2);
+        let mut lines = vec![lesson.send_next(), lesson.send_next()];
         if ended {
-            lines.push(bench.end());
+            lines.push(lesson.end());
         }
-        lines.extend((0..5).map(|_| bench.take_next(&mut random)));
+        lines.extend((0..5).map(|_| lesson.take_next(&mut random)));
         for line in lines {
             assert!(!kit.answer(&line).starts_with("refused"));
         }
-        (kit, bench)
+        (kit, lesson)
     }
 
-    /// A kit and a bench that have not begun.
-    fn not_begun() -> (Kit, Bench) {
-        (Kit::fresh(), Bench::new(&mut Random::new(82), 2))
+    /// A kit and a lesson that have not begun.
+    fn not_begun() -> (Kit, Lesson) {
+        (Kit::fresh(), Lesson::new(&mut Random::new(82), 2))
     }
 
     #[test]
     fn the_sender_refuses_as_meant() {
-        let (mut kit, bench) = not_begun();
-        let answers_then = answers(&mut kit, &bench, refused_by_sender);
+        let (mut kit, lesson) = not_begun();
+        let answers_then = answers(&mut kit, &lesson, refused_by_sender);
         are(&answers_then, &["refused 1", "refused 2", "refused 6"]);
-        let (mut kit, bench) = under_way(false);
-        let answers_then = answers(&mut kit, &bench, refused_by_sender);
+        let (mut kit, lesson) = under_way(false);
+        let answers_then = answers(&mut kit, &lesson, refused_by_sender);
         are(&answers_then, &["refused 1", "refused 2"]);
-        let (mut kit, bench) = under_way(true);
-        let answers_then = answers(&mut kit, &bench, refused_by_sender);
+        let (mut kit, lesson) = under_way(true);
+        let answers_then = answers(&mut kit, &lesson, refused_by_sender);
         are(&answers_then, &["refused 1", "refused 2", "refused 7"]);
     }
 
     #[test]
     fn the_receiver_refuses_as_meant() {
-        for (mut kit, bench) in [not_begun(), under_way(false), under_way(true)] {
-            let answers = answers(&mut kit, &bench, refused_by_receiver);
+        for (mut kit, lesson) in [not_begun(), under_way(false), under_way(true)] {
+            let answers = answers(&mut kit, &lesson, refused_by_receiver);
             are(&answers, &["refused 1", "refused 2", "refused 4"]);
         }
     }
 
     #[test]
     fn each_wrong_sort_is_wrong_as_meant() {
-        for (mut kit, bench) in [not_begun(), under_way(false), under_way(true)] {
-            are(&answers(&mut kit, &bench, not_understood), &["?"]);
-            let made = |random: &mut Random, _: &Bench| bench::send(&spoiled_block(random));
-            are(&answers(&mut kit, &bench, made), &["refused 2"]);
-            let made = |random: &mut Random, _: &Bench| bench::send(&block_of_wrong_length(random));
-            are(&answers(&mut kit, &bench, made), &["refused 1"]);
-            let made = |random: &mut Random, bench: &Bench| {
+        for (mut kit, lesson) in [not_begun(), under_way(false), under_way(true)] {
+            are(&answers(&mut kit, &lesson, not_understood), &["?"]);
+            let made = |random: &mut Random, _: &Lesson| send(&spoiled_block(random));
+            are(&answers(&mut kit, &lesson, made), &["refused 2"]);
+            let made = |random: &mut Random, _: &Lesson| send(&block_of_wrong_length(random));
+            are(&answers(&mut kit, &lesson, made), &["refused 1"]);
+            let made = |random: &mut Random, lesson: &Lesson| {
                 let e = burst_of_wrong_length(random);
-                take(random, bench.next_number(), &e)
+                take_numbered(random, lesson.next_number(), &e)
             };
-            are(&answers(&mut kit, &bench, made), &["refused 1"]);
-            let made = |random: &mut Random, bench: &Bench| {
-                let e = spoiled_burst(random, bench);
-                take(random, bench.next_number(), &e)
+            are(&answers(&mut kit, &lesson, made), &["refused 1"]);
+            let made = |random: &mut Random, lesson: &Lesson| {
+                let e = spoiled_burst(random, lesson);
+                take_numbered(random, lesson.next_number(), &e)
             };
-            are(&answers(&mut kit, &bench, made), &["refused 2"]);
+            are(&answers(&mut kit, &lesson, made), &["refused 2"]);
         }
     }
 
@@ -322,14 +312,14 @@ mod tests {
 
     #[test]
     fn the_streams_stand_as_before() {
-        for (mut kit, bench) in [not_begun(), under_way(false), under_way(true)] {
-            answers(&mut kit, &bench, line);
+        for (mut kit, lesson) in [not_begun(), under_way(false), under_way(true)] {
+            answers(&mut kit, &lesson, line);
             // The next burst is still the next one; the sender is as far as it was.
-            let number = bench.next_number().to_string();
-            let next = bench::take(number.as_bytes(), &[b'0'; 116]);
+            let number = lesson.next_number().to_string();
+            let next = take(number.as_bytes(), &[b'0'; 116]);
             assert_eq!(kit.answer(&next), "waiting");
             let end = kit.answer(b"end");
-            match (bench.ended, bench.sent) {
+            match (lesson.ended, lesson.sent) {
                 (true, _) => assert_eq!(end, "refused 7"),
                 (false, 0) => assert_eq!(end, "refused 6"),
                 _ => assert_eq!(end.len(), 464),
@@ -339,7 +329,7 @@ mod tests {
 
     #[test]
     fn no_made_line_holds_a_newline() {
-        let (_, bench) = under_way(true);
-        crate::makers::sent_lines::no_newline(84, 5000, |random| line(random, &bench));
+        let (_, lesson) = under_way(true);
+        no_newline(84, 5000, |random| line(random, &lesson));
     }
 }

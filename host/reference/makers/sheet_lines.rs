@@ -1,6 +1,7 @@
 //! Random access sheet lines: more than half are valid requests.
 
 use crate::chance::random::Random;
+use crate::makers::fields;
 
 /// One random sheet line, without its newline; of a hundred, sixty are valid requests.
 pub fn line(random: &mut Random) -> Vec<u8> {
@@ -26,12 +27,8 @@ fn eight_bits(random: &mut Random) -> Vec<u8> {
     match random.below(10) {
         0 => vec![b'0'; 8],
         1 => vec![b'1'; 8],
-        2 => {
-            let mut bits = vec![b'0'; 8];
-            bits[random.below(8)] = b'1';
-            bits
-        }
-        _ => (0..8).map(|_| random.pick(b"01")).collect(),
+        2 => fields::single(random, 8, b'1', b'0'),
+        _ => fields::any_bits(random, 8),
     }
 }
 
@@ -118,7 +115,7 @@ fn garbage(random: &mut Random) -> Vec<u8> {
         1 + random.below(30)
     };
     match random.below(3) {
-        0 => (0..length).map(|_| random.any_byte()).collect(),
+        0 => fields::any_bytes(random, length),
         1 => (0..length).map(|_| random.pick(b"0123456789 ")).collect(),
         _ => {
             let mut line = valid(random);
@@ -131,23 +128,17 @@ fn garbage(random: &mut Random) -> Vec<u8> {
 #[cfg(test)]
 mod tests {
     use super::*;
+    use crate::makers::each;
+    use crate::makers::sorts::{all_pass, no_newline};
     use crate::sheet::answer;
 
-    /// Every line of one kind is answered with this end.
-    fn all_end_in(kind: fn(&mut Random) -> Vec<u8>, end: &str) {
-        let mut random = Random::new(15);
-        for _ in 0..2000 {
-            let line = kind(&mut random);
-            assert!(
-                answer(&line).ends_with(end),
-                "{}",
-                String::from_utf8_lossy(&line)
-            );
-        }
+    /// Every line of one sort is answered with this end.
+    fn all_end_in(sort: fn(&mut Random) -> Vec<u8>, end: &str) {
+        all_pass(15, 2000, sort, |line| answer(line).ends_with(end));
     }
 
     #[test]
-    fn each_wrong_kind_is_wrong_as_meant() {
+    fn each_wrong_sort_is_wrong_as_meant() {
         all_end_in(wrong_length, "?? refused 1");
         all_end_in(wrong_head, "?? refused 1");
         all_end_in(wrong_character, " refused 2");
@@ -157,23 +148,18 @@ mod tests {
 
     #[test]
     fn valid_requests_are_answered_with_36_bits() {
-        let mut random = Random::new(16);
-        for _ in 0..2000 {
-            assert_eq!(answer(&valid(&mut random)).len(), 39);
-        }
+        all_pass(16, 2000, valid, |line| answer(line).len() == 39);
     }
 
     #[test]
     fn no_made_line_holds_a_newline() {
-        crate::makers::sent_lines::no_newline(17, 5000, line);
+        no_newline(17, 5000, line);
     }
 
     #[test]
     fn more_than_half_of_the_lines_are_requests() {
-        let mut random = Random::new(18);
-        let requests = (0..2000)
-            .filter(|_| answer(&line(&mut random)).len() == 39)
-            .count();
-        assert!(requests > 1000);
+        let lines = each(&mut Random::new(18), 2000, line);
+        let requests = lines.iter().filter(|line| answer(line).len() == 39);
+        assert!(requests.count() > 1000);
     }
 }

@@ -2,8 +2,10 @@
 
 use crate::chance::lists;
 use crate::chance::random::Random;
-use crate::makers::sent_lines::{self as lines, Request};
+use crate::makers::fields;
+use crate::makers::request::Request;
 use crate::model::coding::convolve;
+use crate::text::characters;
 
 /// One random view line, without its newline; of a hundred, seventy are views.
 pub fn line(random: &mut Random) -> Vec<u8> {
@@ -15,25 +17,20 @@ pub fn line(random: &mut Random) -> Vec<u8> {
         87..=90 => both_wrong(random),
         91..=93 => wrong_fields(random),
         94..=95 => wrong_word(random),
-        96..=97 => long_line(random),
-        _ => garbage(random),
+        96..=97 => view_of(Vec::new()).long_line(random),
+        _ => valid(random).garbled(random),
     }
 }
 
 /// The request to view these characters.
 fn view_of(bits: Vec<u8>) -> Request {
-    Request {
-        word: "trellis",
-        identity: Vec::new(),
-        bits,
-    }
+    Request::of_bits("trellis", bits)
 }
 
 /// A view of up to 228 pairs.
 fn valid(random: &mut Random) -> Request {
     let t = pairs(random);
-    let list = received(random, t);
-    view_of(list.iter().map(|bit| b'0' + bit).collect())
+    view_of(characters(&received(random, t)))
 }
 
 /// The number of pairs: few, those of the blocks and their neighbours, or any up to 228.
@@ -77,36 +74,31 @@ fn another_length(random: &mut Random) -> usize {
     }
 }
 
-/// Characters of bits in a wrong number.
-fn in_wrong_number(random: &mut Random) -> Vec<u8> {
+/// The bits of a valid request, cut short or drawn out to a wrong length.
+fn in_wrong_number(random: &mut Random) -> Request {
     let length = another_length(random);
-    let mut bits = valid(random).bits;
-    bits.truncate(length);
-    let missing = length - bits.len();
-    bits.extend(lines::good_bits(random, missing));
-    bits
+    let mut request = valid(random);
+    fields::fit(random, &mut request.bits, length);
+    request
 }
 
 /// Refusal 1: an odd length, or one over 456.
 fn wrong_length(random: &mut Random) -> Vec<u8> {
-    view_of(in_wrong_number(random)).line()
+    in_wrong_number(random).line()
 }
 
 /// Refusal 2: wrong characters among one pair or more.
 fn wrong_bits(random: &mut Random) -> Vec<u8> {
-    let mut bits = valid(random).bits;
-    if bits.is_empty() {
-        bits = b"01".to_vec();
+    let mut request = valid(random);
+    if request.bits.is_empty() {
+        request.bits = b"01".to_vec();
     }
-    lines::spoil(random, &mut bits);
-    view_of(bits).line()
+    request.wrong_bits(random)
 }
 
 /// Refusal 1 before 2: the length and some characters are wrong.
 fn both_wrong(random: &mut Random) -> Vec<u8> {
-    let mut bits = in_wrong_number(random);
-    lines::spoil(random, &mut bits);
-    view_of(bits).line()
+    in_wrong_number(random).wrong_bits(random)
 }
 
 /// Two or more arguments, or spaces where none belong.
@@ -120,7 +112,7 @@ fn wrong_fields(random: &mut Random) -> Vec<u8> {
         3 => [b"trellis 0 ", &request.bits[..]].concat(),
         4 => [b"trellis\t", &request.bits[..]].concat(),
         5 => b"trellis  ".to_vec(),
-        _ => lines::double_space(random, &line),
+        _ => fields::double_space(random, &line),
     }
 }
 
@@ -130,42 +122,15 @@ fn wrong_word(random: &mut Random) -> Vec<u8> {
     let word = if random.one_in(2) {
         random.pick(&UNKNOWN).to_vec()
     } else {
-        lines::changed_word(random, "trellis")
+        fields::changed_word(random, b"trellis")
     };
     valid(random).line_with(&word)
-}
-
-/// A line at the limit of 1,000 bytes or over it.
-fn long_line(random: &mut Random) -> Vec<u8> {
-    let beyond = 1002 + random.below(7000);
-    let length = random.pick(&[999, 1000, 1001, beyond]);
-    view_of(lines::good_bits(random, length - b"trellis ".len())).line()
-}
-
-/// Random bytes after the word, or a valid line with one byte changed.
-fn garbage(random: &mut Random) -> Vec<u8> {
-    let line = valid(random).line();
-    lines::garbled(random, line, b"trellis ".len())
 }
 
 #[cfg(test)]
 mod tests {
     use super::*;
-    use crate::kit::answer;
-
-    /// Every line of one sort is answered as its sort says.
-    fn all_are(made: fn(&mut Random) -> Vec<u8>, expected: &str) {
-        let mut random = Random::new(48);
-        for _ in 0..1000 {
-            let line = made(&mut random);
-            assert_eq!(
-                answer(&line),
-                expected,
-                "{}",
-                String::from_utf8_lossy(&line)
-            );
-        }
-    }
+    use crate::makers::sorts::{all_are, answers, no_newline};
 
     /// The answer gives sixteen numbers.
     fn is_view(answer: &str) -> bool {
@@ -174,19 +139,17 @@ mod tests {
 
     #[test]
     fn each_wrong_sort_is_wrong_as_meant() {
-        all_are(wrong_length, "refused 1");
-        all_are(wrong_bits, "refused 2");
-        all_are(both_wrong, "refused 1");
-        all_are(wrong_word, "?");
-        all_are(wrong_fields, "?");
+        all_are(48, 1000, wrong_length, "refused 1");
+        all_are(48, 1000, wrong_bits, "refused 2");
+        all_are(48, 1000, both_wrong, "refused 1");
+        all_are(48, 1000, wrong_word, "?");
+        all_are(48, 1000, wrong_fields, "?");
     }
 
     #[test]
     fn valid_requests_are_viewed() {
-        let mut random = Random::new(49);
-        for _ in 0..100 {
-            assert!(is_view(&answer(&valid(&mut random).line())));
-            assert!(is_view(&answer(&of_nothing(&mut random))));
+        for sort in [|random: &mut Random| valid(random).line(), of_nothing] {
+            assert!(answers(49, 100, sort).iter().all(|answer| is_view(answer)));
         }
     }
 
@@ -202,15 +165,12 @@ mod tests {
 
     #[test]
     fn no_made_line_holds_a_newline() {
-        crate::makers::sent_lines::no_newline(51, 3000, line);
+        no_newline(51, 3000, line);
     }
 
     #[test]
     fn more_than_half_of_the_lines_are_views() {
-        let mut random = Random::new(52);
-        let views = (0..200)
-            .filter(|_| is_view(&answer(&line(&mut random))))
-            .count();
-        assert!(views > 120);
+        let answers = answers(52, 200, line);
+        assert!(answers.iter().filter(|answer| is_view(answer)).count() > 120);
     }
 }

@@ -1,18 +1,20 @@
-//! A bench: a stream of blocks on its way from a sender through the cable to a receiver, and the
+//! A lesson: a stream of blocks on its way from a sender through the cable to a receiver, and the
 //! kit lines that this takes.
 
 use crate::chance::cable;
 use crate::chance::lists;
 use crate::chance::random::Random;
-use crate::makers::sent_lines as lines;
+use crate::makers::fields::{good_bits, number_of};
 use crate::model::burst::BURST;
+use crate::model::kind::Kind;
 use crate::model::sending_stream::sent_and_ended;
+use crate::text::{bits, characters};
 
 /// So many numbers there are for bursts.
 const NUMBERS: usize = 65_536;
 
 /// A stream, and how far it has come.
-pub struct Bench {
+pub struct Lesson {
     /// The information bits of its blocks, as characters.
     blocks: Vec<Vec<u8>>,
     /// Its bursts as they come out of the cable.
@@ -26,14 +28,17 @@ pub struct Bench {
 
 /// The information bits of a block, as characters; one in so many is FACCH.
 pub fn block(random: &mut Random, one_in: usize) -> Vec<u8> {
-    let length = if random.one_in(one_in) { 184 } else { 260 };
-    lines::good_bits(random, length)
+    let kind = if random.one_in(one_in) {
+        Kind::Facch
+    } else {
+        Kind::Speech
+    };
+    good_bits(random, kind.channel().reads)
 }
 
 /// The bursts that our sender makes of blocks and of the end.
 pub fn sent_bursts(blocks: &[Vec<u8>]) -> Vec<Vec<u8>> {
-    let bits = |block: &Vec<u8>| block.iter().map(|bit| bit - b'0').collect();
-    let blocks: Vec<Vec<u8>> = blocks.iter().map(bits).collect();
+    let blocks: Vec<Vec<u8>> = blocks.iter().map(|block| bits(block)).collect();
     sent_and_ended(&blocks)
 }
 
@@ -47,13 +52,18 @@ pub fn take(number: &[u8], e: &[u8]) -> Vec<u8> {
     [b"take ", number, b" ", e].concat()
 }
 
-impl Bench {
+/// The same with the number in one to five digits.
+pub fn take_numbered(random: &mut Random, number: usize, e: &[u8]) -> Vec<u8> {
+    take(&number_of(random, number), e)
+}
+
+impl Lesson {
     /// A stream of so many random blocks, not begun.
-    pub fn new(random: &mut Random, number: usize) -> Bench {
+    pub fn new(random: &mut Random, number: usize) -> Lesson {
         let blocks: Vec<Vec<u8>> = (0..number).map(|_| block(random, 3)).collect();
         let mut bursts = sent_bursts(&blocks);
         cable::lesson(random, &mut bursts);
-        Bench {
+        Lesson {
             blocks,
             bursts,
             sent: 0,
@@ -74,8 +84,8 @@ impl Bench {
             _ => self.taken,
         };
         match self.bursts.get(which) {
-            Some(e) => lines::characters(e),
-            None => lines::good_bits(random, BURST),
+            Some(e) => characters(e),
+            None => good_bits(random, BURST),
         }
     }
 
@@ -104,7 +114,7 @@ impl Bench {
 
     /// Takes the next burst.
     pub fn take_next(&mut self, random: &mut Random) -> Vec<u8> {
-        let e = lines::characters(&self.bursts[self.taken]);
+        let e = characters(&self.bursts[self.taken]);
         self.take_under_next(random, &e)
     }
 
@@ -115,14 +125,14 @@ impl Bench {
             1 => lists::pattern(random, BURST),
             _ => lists::random_bits(random, BURST),
         };
-        self.take_under_next(random, &lines::characters(&e))
+        self.take_under_next(random, &characters(&e))
     }
 
     /// Takes characters under the next number.
     fn take_under_next(&mut self, random: &mut Random, e: &[u8]) -> Vec<u8> {
-        let number = lines::number_of(random, self.next_number());
+        let number = self.next_number();
         self.taken += 1;
-        take(&number, e)
+        take_numbered(random, number, e)
     }
 }
 
@@ -151,25 +161,25 @@ mod tests {
         let blocks: Vec<Vec<u8>> = (0..5).map(|_| block(&mut random, 2)).collect();
         let mut lines: Vec<Vec<u8>> = blocks.iter().map(|d| send(d)).collect();
         lines.push(b"end".to_vec());
-        let sent = lines::characters(&sent_bursts(&blocks).concat());
+        let sent = characters(&sent_bursts(&blocks).concat());
         assert_eq!(answers(&lines).concat().into_bytes(), sent);
     }
 
     #[test]
-    fn a_bench_sends_ends_and_takes_to_the_last_burst() {
+    fn a_lesson_sends_ends_and_takes_to_the_last_burst() {
         let mut random = Random::new(79);
         for number in 1..=5 {
-            let mut bench = Bench::new(&mut random, number);
+            let mut lesson = Lesson::new(&mut random, number);
             let mut lines = Vec::new();
-            while !bench.all_sent() {
-                lines.push(bench.send_next());
+            while !lesson.all_sent() {
+                lines.push(lesson.send_next());
             }
-            lines.push(bench.end());
-            while bench.has_burst() {
-                lines.push(bench.take_next(&mut random));
+            lines.push(lesson.end());
+            while lesson.has_burst() {
+                lines.push(lesson.take_next(&mut random));
             }
-            assert_eq!(bench.taken, 4 * number + 4);
-            lines.push(bench.take_unsent(&mut random));
+            assert_eq!(lesson.taken, 4 * number + 4);
+            lines.push(lesson.take_unsent(&mut random));
             let answers = answers(&lines);
             assert!(answers[..=number].iter().all(|answer| answer.len() == 464));
             let waiting = answers.iter().filter(|answer| *answer == "waiting").count();
