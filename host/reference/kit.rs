@@ -137,9 +137,42 @@ mod tests {
     use crate::model::channel::{Channel, CHANNELS};
     use crate::page;
 
-    /// The answer to a line of text.
+    /// A text with its runs written out: "1{0*3}" is "1000".
+    fn full(text: &str) -> String {
+        let mut parts = text.split('{');
+        let mut full = parts.next().unwrap_or_default().to_string();
+        for part in parts {
+            let (run, rest) = part.split_once('}').unwrap();
+            let (bits, times) = run.split_once('*').unwrap();
+            full += &bits.repeat(times.parse().unwrap());
+            full += rest;
+        }
+        full
+    }
+
+    /// The answer of a fresh kit to a line of text.
     fn answer_to(line: &str) -> String {
-        answer(line.as_bytes())
+        answer(full(line).as_bytes())
+    }
+
+    /// The answers of one kit to lines of text in their order.
+    fn answers_to(lines: &[&str]) -> Vec<String> {
+        let lines: Vec<Vec<u8>> = lines.iter().map(|line| full(line).into_bytes()).collect();
+        answers(&lines)
+    }
+
+    /// Each line has its answer from a fresh kit.
+    fn answered(lines: &[(&str, &str)]) {
+        for (line, expected) in lines {
+            assert_eq!(answer_to(line), full(expected), "{}", line);
+        }
+    }
+
+    /// Each line is answered by "?".
+    fn not_understood(lines: &[&str]) {
+        for line in lines {
+            assert_eq!(answer_to(line), "?", "{}", line);
+        }
     }
 
     /// A page of lines in, a page of answers out.
@@ -148,19 +181,17 @@ mod tests {
         String::from_utf8(page::answers(input, |line| kit.answer(line))).unwrap()
     }
 
-    /// The answers of one kit to lines of text in their order.
-    fn answers_to(lines: &[&str]) -> Vec<String> {
-        let lines: Vec<Vec<u8>> = lines.iter().map(|line| line.as_bytes().to_vec()).collect();
-        answers(&lines)
+    /// All characters are bits, and so many.
+    fn are_bits(answer: &str, number: usize) -> bool {
+        answer.len() == number && answer.chars().all(|bit| bit == '0' || bit == '1')
     }
 
     #[test]
     fn access_answers_its_bits() {
-        assert_eq!(
-            answer_to("access 0 00000000"),
-            "000000000000000011101001101001000011"
-        );
-        assert_eq!(answer_to("access 63 00000000"), "0".repeat(36));
+        answered(&[
+            ("access 0 00000000", "000000000000000011101001101001000011"),
+            ("access 63 00000000", "{0*36}"),
+        ]);
     }
 
     /// The words with which a channel's lines begin: its verb, and an identity where it has one.
@@ -172,64 +203,96 @@ mod tests {
     #[test]
     fn every_channel_answers_its_length() {
         for channel in CHANNELS {
-            let words = words_of(&channel, "");
-            let answer = answer_to(&format!("{} {}", words, "1".repeat(channel.reads)));
-            assert_eq!(answer.len(), channel.writes);
-            assert!(answer.chars().all(|bit| bit == '0' || bit == '1'));
+            let line = format!("{} {{1*{}}}", words_of(&channel, ""), channel.reads);
+            assert!(are_bits(&answer_to(&line), channel.writes), "{}", line);
+        }
+    }
+
+    #[test]
+    fn what_is_sent_is_received() {
+        for channel in CHANNELS {
+            let d = &full("{0110100*38}")[..channel.reads];
+            let sent = answer_to(&format!("{} {}", words_of(&channel, ""), d));
+            let answer = answer_to(&format!("{} {}", words_of(&channel, "?"), sent));
+            assert_eq!(answer, format!("0 {}", d));
+        }
+        let sent = answer_to("access 00041 01101001");
+        assert_eq!(answer_to(&format!("access? 41 {}", sent)), "0 01101001");
+        assert_eq!(answer_to(&format!("access? 40 {}", sent)), "refused 8 0");
+    }
+
+    #[test]
+    fn an_identity_is_understood_where_the_channel_has_one_alone() {
+        for channel in CHANNELS {
+            for (mark, length) in [("", channel.reads), ("?", channel.writes)] {
+                let word = format!("{}{}", channel.name, mark);
+                let without = answer_to(&format!("{} {{0*{}}}", word, length));
+                let with = answer_to(&format!("{} 63 {{0*{}}}", word, length));
+                assert_eq!(without == "?", channel.has_identity, "{}", word);
+                assert_eq!(with == "?", !channel.has_identity, "{}", word);
+            }
         }
     }
 
     #[test]
     fn speech_of_zeros_has_its_seven_ones() {
-        let answer = answer_to(&format!("speech {}", "0".repeat(260)));
+        let answer = answer_to("speech {0*260}");
         let ones: Vec<usize> = answer.match_indices('1').map(|(k, _)| k).collect();
         assert_eq!(ones, [182, 183, 184, 186, 188, 194, 195]);
     }
 
     #[test]
-    fn no_input_has_no_answer() {
+    fn pages_are_answered_line_by_line() {
         assert_eq!(page_of(b""), "");
-    }
-
-    #[test]
-    fn empty_lines_are_not_understood() {
         assert_eq!(page_of(b"\n\n"), "?\n?\n");
-    }
-
-    #[test]
-    fn a_last_line_without_its_newline_is_answered() {
+        // A last line without its newline is answered; a carriage return is one character more.
         assert_eq!(page_of(b"sch \nsch 2"), "refused 1\nrefused 1\n");
+        assert_eq!(page_of(b"access 0 00000000\r\n"), "refused 1\n");
     }
 
     #[test]
-    fn a_line_of_1000_bytes_is_read_and_one_of_1001_is_not() {
-        let read = format!("speech {}", "0".repeat(993));
-        assert_eq!(
-            (read.len(), answer_to(&read)),
-            (1000, "refused 1".to_string())
-        );
-        let unread = format!("speech {}", "0".repeat(994));
-        assert_eq!((unread.len(), answer_to(&unread)), (1001, "?".to_string()));
+    fn lines_of_1000_bytes_are_read_and_those_of_1001_are_not() {
+        for words in ["speech ", "control? ", "trellis ", "send ", "take 0 "] {
+            let room = 1000 - words.len();
+            let read = format!("{}{{0*{}}}", words, room);
+            let unread = format!("{}{{0*{}}}", words, room + 1);
+            assert_eq!((full(&read).len(), full(&unread).len()), (1000, 1001));
+            assert_eq!(answer_to(&read), "refused 1", "{}", read);
+            assert_eq!(answer_to(&unread), "?", "{}", unread);
+        }
     }
 
     #[test]
     fn an_argument_may_be_empty() {
-        assert_eq!(answer_to("speech "), "refused 1");
-        assert_eq!(answer_to("access 5 "), "refused 1");
-        // The identity is empty here, and no number.
-        assert_eq!(answer_to("access  00000000"), "?");
+        answered(&[
+            ("speech ", "refused 1"),
+            ("access 5 ", "refused 1"),
+            ("access? 5 ", "refused 1"),
+            ("sch? ", "refused 1"),
+            ("send ", "refused 1"),
+            ("take 0 ", "refused 1"),
+            ("take 1 ", "refused 1"),
+            // The identity is empty here, and no number.
+            ("access  00000000", "?"),
+        ]);
     }
 
     #[test]
     fn the_number_of_arguments_must_be_right() {
-        let d = "0".repeat(25);
-        assert_eq!(answer_to("sch"), "?");
-        assert_eq!(answer_to("sch  0"), "?");
-        assert_eq!(answer_to(&format!("sch {} ", d)), "?");
-        assert_eq!(answer_to(&format!("sch  {}", d)), "?");
-        assert_eq!(answer_to(&format!(" sch {}", d)), "?");
-        assert_eq!(answer_to("access 00000000"), "?");
-        assert_eq!(answer_to("access 0 00000000 0"), "?");
+        not_understood(&[
+            "sch",
+            "sch  0",
+            "sch {0*25} ",
+            "sch  {0*25}",
+            " sch {0*25}",
+            "access 00000000",
+            "access 0 00000000 0",
+            "speech?",
+            "speech? {0*456} ",
+            "access? {0*36}",
+            "access?  {0*36}",
+            "access? 1 {0*36} 1",
+        ]);
     }
 
     #[test]
@@ -237,8 +300,9 @@ mod tests {
         for word in [
             "", "spee", "speec", "speechx", "Speech", "SPEECH", "speech\0", "facch",
         ] {
-            assert_eq!(answer_to(&format!("{} {}", word, "0".repeat(260))), "?");
+            not_understood(&[&format!("{} {{0*260}}", word)]);
         }
+        not_understood(&["speech ? {0*456}", "?speech {0*456}", "control?? {0*456}"]);
     }
 
     #[test]
@@ -255,17 +319,22 @@ mod tests {
 
     #[test]
     fn a_bad_number_comes_before_every_refusal() {
-        assert_eq!(answer_to("access 65536 2"), "?");
-        assert_eq!(answer_to("access x 2"), "?");
+        not_understood(&["access 65536 2", "access x 2", "access? 65536 {0*36}"]);
     }
 
     #[test]
     fn refusals_come_in_the_order_1_2_3() {
-        assert_eq!(answer_to("access 64 000000002"), "refused 1");
-        assert_eq!(answer_to("access 64 00000002"), "refused 2");
-        assert_eq!(answer_to("access 64 00000000"), "refused 3");
-        assert_eq!(answer_to("access 65535 00000000"), "refused 3");
-        assert_eq!(answer_to("sch 2"), "refused 1");
+        answered(&[
+            ("access 64 000000002", "refused 1"),
+            ("access 64 00000002", "refused 2"),
+            ("access 64 00000000", "refused 3"),
+            ("access 65535 00000000", "refused 3"),
+            ("sch 2", "refused 1"),
+            ("access? 64 {0*36}2", "refused 1"),
+            ("access? 64 {2*36}", "refused 2"),
+            ("access? 64 {0*36}", "refused 3"),
+            ("access? 65535 {0*36}", "refused 3"),
+        ]);
     }
 
     #[test]
@@ -277,171 +346,86 @@ mod tests {
     }
 
     #[test]
-    fn a_carriage_return_is_one_character_more() {
-        assert_eq!(page_of(b"access 0 00000000\r\n"), "refused 1\n");
-    }
-
-    /// A view with these numbers for states 0 and 8, and none in the others.
-    fn view_line(state_0: usize, state_8: usize) -> String {
-        let mut numbers = vec!["65535".to_string(); 16];
-        numbers[0] = state_0.to_string();
-        numbers[8] = state_8.to_string();
-        numbers.join(" ")
-    }
-
-    #[test]
     fn the_view_answers_sixteen_numbers() {
-        assert_eq!(answer_to("trellis 11"), view_line(2, 0));
-        assert_eq!(answer_to("trellis 00"), view_line(0, 2));
-        let longest = answer_to(&format!("trellis {}", "01".repeat(228)));
+        answered(&[
+            ("trellis 11", "2{ 65535*7} 0{ 65535*7}"),
+            ("trellis 00", "0{ 65535*7} 2{ 65535*7}"),
+        ]);
+        let longest = answer_to("trellis {01*228}");
         assert_eq!(longest.split(' ').count(), 16);
     }
 
     #[test]
     fn the_view_of_nothing_may_lack_its_argument() {
-        assert_eq!(answer_to("trellis"), view_line(0, 65_535));
-        assert_eq!(answer_to("trellis "), view_line(0, 65_535));
-        assert_eq!(answer_to("trellis  "), "?");
-        assert_eq!(answer_to("trellis 11 11"), "?");
-        assert_eq!(answer_to(" trellis"), "?");
-        assert_eq!(answer_to("trellis?"), "?");
+        answered(&[("trellis", "0{ 65535*15}"), ("trellis ", "0{ 65535*15}")]);
+        not_understood(&["trellis  ", "trellis 11 11", " trellis", "trellis?"]);
     }
 
     #[test]
     fn the_view_refuses_lengths_and_then_bytes() {
-        assert_eq!(answer_to("trellis 2"), "refused 1");
-        assert_eq!(answer_to("trellis 12"), "refused 2");
-        assert_eq!(
-            answer_to(&format!("trellis {}", "2".repeat(458))),
-            "refused 1"
-        );
+        answered(&[
+            ("trellis 2", "refused 1"),
+            ("trellis 12", "refused 2"),
+            ("trellis {2*458}", "refused 1"),
+        ]);
     }
 
     #[test]
     fn receiving_answers_the_count_and_the_bits() {
-        let zeros = "0".repeat(36);
-        assert_eq!(answer_to(&format!("access? 63 {}", zeros)), "0 00000000");
-        assert_eq!(answer_to(&format!("access? 0 {}", zeros)), "refused 8 0");
-        assert_eq!(answer_to(&format!("access? 64 {}", zeros)), "refused 3");
-        let four_set = format!("1101001{}", "0".repeat(29));
-        assert_eq!(
-            answer_to(&format!("access? 63 {}", four_set)),
-            "refused 8 3"
-        );
-        assert_eq!(
-            answer_to(&format!("speech? {}", "0".repeat(456))),
-            "refused 8 0"
-        );
-    }
-
-    #[test]
-    fn what_is_sent_is_received() {
-        for channel in CHANNELS {
-            let d = "0110100".repeat(38)[..channel.reads].to_string();
-            let sent = answer_to(&format!("{} {}", words_of(&channel, ""), d));
-            let answer = answer_to(&format!("{} {}", words_of(&channel, "?"), sent));
-            assert_eq!(answer, format!("0 {}", d));
-        }
-        let sent = answer_to("access 00041 01101001");
-        assert_eq!(answer_to(&format!("access? 41 {}", sent)), "0 01101001");
-        assert_eq!(answer_to(&format!("access? 40 {}", sent)), "refused 8 0");
-    }
-
-    #[test]
-    fn an_identity_is_understood_where_the_channel_has_one_alone() {
-        for channel in CHANNELS {
-            for (mark, length) in [("", channel.reads), ("?", channel.writes)] {
-                let word = format!("{}{}", channel.name, mark);
-                let (without, with) = (
-                    answer_to(&format!("{} {}", word, "0".repeat(length))),
-                    answer_to(&format!("{} 63 {}", word, "0".repeat(length))),
-                );
-                assert_eq!(without == "?", channel.has_identity, "{}", word);
-                assert_eq!(with == "?", !channel.has_identity, "{}", word);
-            }
-        }
-    }
-
-    #[test]
-    fn receiving_refuses_in_the_order_1_2_3() {
-        let right = "0".repeat(36);
-        let wrong = "2".repeat(36);
-        assert_eq!(answer_to(&format!("access? 64 {}2", right)), "refused 1");
-        assert_eq!(answer_to(&format!("access? 64 {}", wrong)), "refused 2");
-        assert_eq!(answer_to(&format!("access? 65535 {}", right)), "refused 3");
-        assert_eq!(answer_to(&format!("access? 65536 {}", right)), "?");
-        assert_eq!(answer_to("access? 5 "), "refused 1");
-        assert_eq!(answer_to("sch? "), "refused 1");
-    }
-
-    #[test]
-    fn receiving_needs_its_arguments() {
-        let c = "0".repeat(456);
-        for line in [
-            "speech?".to_string(),
-            format!("speech? {} ", c),
-            format!("speech ? {}", c),
-            format!("?speech {}", c),
-            format!("access? {}", &c[..36]),
-            format!("access?  {}", &c[..36]),
-            format!("access? 1 {} 1", &c[..36]),
-            format!("control?? {}", c),
-        ] {
-            assert_eq!(answer_to(&line), "?", "{}", line);
-        }
-    }
-
-    /// A send of ones.
-    fn send(length: usize) -> String {
-        format!("send {}", "1".repeat(length))
-    }
-
-    /// A take of zeros.
-    fn take(number: &str) -> String {
-        format!("take {} {}", number, "0".repeat(116))
+        answered(&[
+            ("access? 63 {0*36}", "0 00000000"),
+            ("access? 0 {0*36}", "refused 8 0"),
+            ("access? 63 1101001{0*29}", "refused 8 3"),
+            ("speech? {0*456}", "refused 8 0"),
+        ]);
     }
 
     #[test]
     fn send_and_end_answer_464_bits() {
-        let answers = answers_to(&[&send(260), &send(184), "end", "end", &send(184)]);
-        for answer in &answers[..3] {
-            assert_eq!(answer.len(), 464);
-            assert!(answer.chars().all(|bit| bit == '0' || bit == '1'));
-        }
+        let (speech, facch) = ("send {1*260}", "send {1*184}");
+        let answers = answers_to(&[speech, facch, "end", "end", facch]);
+        assert!(answers[..3].iter().all(|answer| are_bits(answer, 464)));
         assert_eq!(answers[3..], ["refused 7", "refused 7"]);
     }
 
     #[test]
     fn end_without_a_block_is_refused() {
-        assert_eq!(page_of(b"end\nend\n"), "refused 6\nrefused 6\n");
+        assert_eq!(answers_to(&["end", "end"]), ["refused 6", "refused 6"]);
+    }
+
+    /// The answers of a kit that takes the same burst twelve times, under the numbers 0 to 11.
+    fn twelve_taken(e: &str) -> Vec<String> {
+        let lines: Vec<String> = (0..12).map(|n| format!("take {:02} {}", n, e)).collect();
+        let lines: Vec<&str> = lines.iter().map(|line| line.as_str()).collect();
+        answers_to(&lines)
+    }
+
+    /// "waiting" twelve times, but for the answers for blocks 0 and 1.
+    fn two_answers(first: &str, second: &str) -> Vec<String> {
+        let mut answers = vec!["waiting".to_string(); 12];
+        answers[7] = first.to_string();
+        answers[11] = second.to_string();
+        answers
     }
 
     #[test]
     fn zeros_taken_are_waited_for_and_then_refused() {
-        let lines: Vec<String> = (0..12).map(|number| take(&number.to_string())).collect();
-        let lines: Vec<&str> = lines.iter().map(|line| line.as_str()).collect();
-        let mut expected = vec!["waiting"; 12];
-        expected[7] = "refused 8 0 0";
-        expected[11] = "refused 8 1 0";
-        assert_eq!(answers_to(&lines), expected);
+        let expected = two_answers("refused 8 0 0", "refused 8 1 0");
+        assert_eq!(twelve_taken("{0*116}"), expected);
     }
 
     #[test]
     fn four_flags_are_refused_with_n() {
-        // hu of the first four bursts is 1, hl of the last four is 0.
-        let mut kit = Kit::fresh();
-        for number in 0..8 {
-            let e = format!("{}01{}", "0".repeat(57), "0".repeat(57));
-            let answer = kit.answer(format!("take {} {}", number, e).as_bytes());
-            assert_eq!(answer, if number < 7 { "waiting" } else { "refused 9 0" });
-        }
+        // hu of the first four bursts of a block is 1, hl of the last four is 0.
+        let expected = two_answers("refused 9 0", "refused 9 1");
+        assert_eq!(twelve_taken("{0*57}01{0*57}"), expected);
     }
 
     #[test]
     fn blocks_sent_are_taken() {
-        let (speech, facch) = ("0110100".repeat(38), "1101".repeat(46));
+        let (speech, facch) = (full("{0110*65}"), full("{1101*46}"));
         let mut kit = Kit::fresh();
-        let mut sent = kit.answer(format!("send {}", &speech[..260]).as_bytes());
+        let mut sent = kit.answer(format!("send {}", speech).as_bytes());
         sent += &kit.answer(format!("send {}", facch).as_bytes());
         sent += &kit.answer(b"end");
         let mut answers = Vec::new();
@@ -449,16 +433,17 @@ mod tests {
             let line = format!("take {:05} {}", number, &sent[start..start + 116]);
             answers.push(kit.answer(line.as_bytes()));
         }
-        let mut expected = vec!["waiting".to_string(); 12];
-        expected[7] = format!("speech 0 0 {}", &speech[..260]);
-        expected[11] = format!("facch 1 0 {}", facch);
-        assert_eq!(answers, expected);
+        let (first, second) = (
+            format!("speech 0 0 {}", speech),
+            format!("facch 1 0 {}", facch),
+        );
+        assert_eq!(answers, two_answers(&first, &second));
     }
 
     #[test]
     fn fresh_makes_both_streams_anew() {
-        let (send, first, second) = (send(184), take("0"), take("1"));
-        let lines = [&send, "end", &first, "fresh", "end", &second, &first, &send];
+        let (send, first, second) = ("send {1*184}", "take 0 {0*116}", "take 1 {0*116}");
+        let lines = [send, "end", first, "fresh", "end", second, first, send];
         let answers = answers_to(&lines);
         assert_eq!(answers[2..4], ["waiting", "fresh"]);
         assert_eq!(answers[4..7], ["refused 6", "refused 4", "waiting"]);
@@ -467,18 +452,18 @@ mod tests {
 
     #[test]
     fn other_lines_leave_the_streams() {
-        let (send, first, second) = (send(260), take("0"), take("1"));
-        let alone = answers_to(&[&send, &first, &send, &second, "end"]);
+        let (send, first, second) = ("send {1*260}", "take 0 {0*116}", "take 1 {0*116}");
+        let alone = answers_to(&[send, first, send, second, "end"]);
         let between = answers_to(&[
-            &send,
+            send,
             "fresh ",
-            &first,
+            first,
             "trellis 11",
             "Fresh",
-            &send,
+            send,
             "end ",
             "",
-            &second,
+            second,
             "end",
         ]);
         let kept = [0, 2, 5, 8, 9].map(|k| between[k].clone());
@@ -486,73 +471,33 @@ mod tests {
     }
 
     #[test]
-    fn stream_arguments_may_be_empty_but_must_be_there() {
-        assert_eq!(answer_to("send "), "refused 1");
-        assert_eq!(answer_to("take 0 "), "refused 1");
-        assert_eq!(answer_to("take 1 "), "refused 1");
-        for line in [
-            "send",
-            "send  ",
-            "end ",
-            "end 0",
-            " end",
-            "fresh ",
-            "fresh 1",
-            " fresh",
+    fn stream_words_have_their_arguments() {
+        not_understood(&["send", "send  ", "send {0*260} ", "send  {0*260}"]);
+        not_understood(&["end ", "end 0", " end", "fresh ", "fresh 1", " fresh"]);
+        not_understood(&[
             "take",
             "take ",
             "take 0",
             "take  0",
             "take 0  ",
             "take 0 0 0",
-            "take 65536 ",
-            "take x ",
-            "take 000000 ",
-            "End",
-            "FRESH",
-            "sends 1",
-            "took 0 ",
-            "send? 1",
-            "take? 0 0",
-        ] {
-            assert_eq!(answer_to(line), "?", "{}", line);
-        }
-        let bits = "0".repeat(260);
-        for line in [
-            format!("send {} ", bits),
-            format!("send  {}", bits),
-            format!("take {}", &bits[..116]),
-            format!("take  {}", &bits[..116]),
-            format!("take 0  {}", &bits[..116]),
-            format!("take 0 {} ", &bits[..116]),
-            format!("take 0x0 {}", &bits[..116]),
-        ] {
-            assert_eq!(answer_to(&line), "?", "{}", line);
-        }
+        ]);
+        not_understood(&["take 65536 ", "take x ", "take 000000 ", "take 0x0 {0*116}"]);
+        not_understood(&["take {0*116}", "take  {0*116}", "take 0  {0*116}"]);
+        not_understood(&["take 0 {0*116} ", "End", "FRESH", "sends 1", "took 0 "]);
+        not_understood(&["send? 1", "take? 0 0"]);
     }
 
     #[test]
     fn stream_refusals_come_in_their_order() {
-        assert_eq!(answer_to("send 2"), "refused 1");
-        assert_eq!(answer_to(&format!("send {}", "2".repeat(184))), "refused 2");
-        assert_eq!(answer_to("take 65535 2"), "refused 1");
-        assert_eq!(
-            answer_to(&format!("take 65535 {}", "x".repeat(116))),
-            "refused 2"
-        );
-        assert_eq!(answer_to(&take("65535")), "refused 4");
-        assert_eq!(answer_to(&take("1")), "refused 4");
-        assert_eq!(answer_to(&take("00000")), "waiting");
-    }
-
-    #[test]
-    fn stream_lines_over_1000_bytes_are_not_read() {
-        assert_eq!(answer_to(&send(995)), "refused 1");
-        assert_eq!(answer_to(&send(996)), "?");
-        assert_eq!(
-            answer_to(&format!("take 0 {}", "0".repeat(993))),
-            "refused 1"
-        );
-        assert_eq!(answer_to(&format!("take 0 {}", "0".repeat(994))), "?");
+        answered(&[
+            ("send 2", "refused 1"),
+            ("send {2*184}", "refused 2"),
+            ("take 65535 2", "refused 1"),
+            ("take 65535 {x*116}", "refused 2"),
+            ("take 65535 {0*116}", "refused 4"),
+            ("take 1 {0*116}", "refused 4"),
+            ("take 00000 {0*116}", "waiting"),
+        ]);
     }
 }

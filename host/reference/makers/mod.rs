@@ -103,6 +103,15 @@ mod tests {
     }
 
     #[test]
+    fn no_made_line_holds_a_newline() {
+        for maker in &MAKERS {
+            for line in (maker.lines)(&mut Random::new(12), 5000) {
+                assert!(!line.contains(&10), "{}", maker.mode);
+            }
+        }
+    }
+
+    #[test]
     fn a_seed_gives_the_same_page_again() {
         for maker in MAKERS.iter().filter(|maker| maker.mode != "make-full") {
             let page = maker.page(1, 20);

@@ -194,7 +194,7 @@ fn sending_word(random: &mut Random) -> Vec<u8> {
 mod tests {
     use super::*;
     use crate::kit::answer;
-    use crate::makers::sorts::{all_are, answers, no_newline, times};
+    use crate::makers::sorts::{all_are, answers, times};
 
     /// The answer of a decoding: a good block, or refusal 8.
     fn is_decoded(answer: &str) -> bool {
@@ -257,11 +257,6 @@ mod tests {
         for expected in ["refused 1", "?"] {
             assert!(times(&answers, expected) > 50);
         }
-    }
-
-    #[test]
-    fn no_made_line_holds_a_newline() {
-        no_newline(46, 3000, line);
     }
 
     #[test]

@@ -207,18 +207,16 @@ fn no_stream(random: &mut Random) -> Vec<u8> {
 mod tests {
     use super::*;
     use crate::kit::Kit;
-    use crate::makers::sorts::no_newline;
+    use crate::makers::each;
 
     /// What a kit answers to so many lines of one sort, made for a lesson that has come as far.
     fn answers(
         kit: &mut Kit,
         lesson: &Lesson,
-        made: impl Fn(&mut Random, &Lesson) -> Vec<u8>,
+        sort: fn(&mut Random, &Lesson) -> Vec<u8>,
     ) -> Vec<String> {
-        let mut random = Random::new(80);
-        (0..1000)
-            .map(|_| kit.answer(&made(&mut random, lesson)))
-            .collect()
+        let lines = each(&mut Random::new(80), 1000, |random| sort(random, lesson));
+        lines.iter().map(|line| kit.answer(line)).collect()
     }
 
     /// Every answer is one of those that are expected, and each of them comes.
@@ -252,22 +250,26 @@ mod tests {
         (Kit::fresh(), Lesson::new(&mut Random::new(82), 2))
     }
 
+    /// A lesson that has not begun, one under way, and one that has ended.
+    fn lessons() -> [(Kit, Lesson); 3] {
+        [not_begun(), under_way(false), under_way(true)]
+    }
+
     #[test]
     fn the_sender_refuses_as_meant() {
-        let (mut kit, lesson) = not_begun();
-        let answers_then = answers(&mut kit, &lesson, refused_by_sender);
-        are(&answers_then, &["refused 1", "refused 2", "refused 6"]);
-        let (mut kit, lesson) = under_way(false);
-        let answers_then = answers(&mut kit, &lesson, refused_by_sender);
-        are(&answers_then, &["refused 1", "refused 2"]);
-        let (mut kit, lesson) = under_way(true);
-        let answers_then = answers(&mut kit, &lesson, refused_by_sender);
-        are(&answers_then, &["refused 1", "refused 2", "refused 7"]);
+        let expected: [&[&str]; 3] = [
+            &["refused 1", "refused 2", "refused 6"],
+            &["refused 1", "refused 2"],
+            &["refused 1", "refused 2", "refused 7"],
+        ];
+        for ((mut kit, lesson), expected) in lessons().into_iter().zip(expected) {
+            are(&answers(&mut kit, &lesson, refused_by_sender), expected);
+        }
     }
 
     #[test]
     fn the_receiver_refuses_as_meant() {
-        for (mut kit, lesson) in [not_begun(), under_way(false), under_way(true)] {
+        for (mut kit, lesson) in lessons() {
             let answers = answers(&mut kit, &lesson, refused_by_receiver);
             are(&answers, &["refused 1", "refused 2", "refused 4"]);
         }
@@ -275,22 +277,33 @@ mod tests {
 
     #[test]
     fn each_wrong_sort_is_wrong_as_meant() {
-        for (mut kit, lesson) in [not_begun(), under_way(false), under_way(true)] {
-            are(&answers(&mut kit, &lesson, not_understood), &["?"]);
-            let made = |random: &mut Random, _: &Lesson| send(&spoiled_block(random));
-            are(&answers(&mut kit, &lesson, made), &["refused 2"]);
-            let made = |random: &mut Random, _: &Lesson| send(&block_of_wrong_length(random));
-            are(&answers(&mut kit, &lesson, made), &["refused 1"]);
-            let made = |random: &mut Random, lesson: &Lesson| {
-                let e = burst_of_wrong_length(random);
-                take_numbered(random, lesson.next_number(), &e)
-            };
-            are(&answers(&mut kit, &lesson, made), &["refused 1"]);
-            let made = |random: &mut Random, lesson: &Lesson| {
-                let e = spoiled_burst(random, lesson);
-                take_numbered(random, lesson.next_number(), &e)
-            };
-            are(&answers(&mut kit, &lesson, made), &["refused 2"]);
+        type Sort = fn(&mut Random, &Lesson) -> Vec<u8>;
+        let sorts: [(Sort, &str); 5] = [
+            (not_understood, "?"),
+            (|random, _| send(&spoiled_block(random)), "refused 2"),
+            (
+                |random, _| send(&block_of_wrong_length(random)),
+                "refused 1",
+            ),
+            (
+                |random, lesson| {
+                    let e = burst_of_wrong_length(random);
+                    take_numbered(random, lesson.next_number(), &e)
+                },
+                "refused 1",
+            ),
+            (
+                |random, lesson| {
+                    let e = spoiled_burst(random, lesson);
+                    take_numbered(random, lesson.next_number(), &e)
+                },
+                "refused 2",
+            ),
+        ];
+        for (mut kit, lesson) in lessons() {
+            for (sort, expected) in sorts {
+                are(&answers(&mut kit, &lesson, sort), &[expected]);
+            }
         }
     }
 
@@ -312,7 +325,7 @@ mod tests {
 
     #[test]
     fn the_streams_stand_as_before() {
-        for (mut kit, lesson) in [not_begun(), under_way(false), under_way(true)] {
+        for (mut kit, lesson) in lessons() {
             answers(&mut kit, &lesson, line);
             // The next burst is still the next one; the sender is as far as it was.
             let number = lesson.next_number().to_string();
@@ -325,11 +338,5 @@ mod tests {
                 _ => assert_eq!(end.len(), 464),
             }
         }
-    }
-
-    #[test]
-    fn no_made_line_holds_a_newline() {
-        let (_, lesson) = under_way(true);
-        no_newline(84, 5000, |random| line(random, &lesson));
     }
 }

@@ -122,7 +122,7 @@ fn garbage(random: &mut Random) -> Vec<u8> {
 #[cfg(test)]
 mod tests {
     use super::*;
-    use crate::makers::sorts::{all_are, answers, no_newline, times};
+    use crate::makers::sorts::{all_are, answers, times};
 
     #[test]
     fn each_wrong_sort_is_wrong_as_meant() {
@@ -150,11 +150,6 @@ mod tests {
         for refusal in ["refused 1", "refused 2"] {
             assert!(times(&answers, refusal) > 200);
         }
-    }
-
-    #[test]
-    fn no_made_line_holds_a_newline() {
-        no_newline(12, 5000, line);
     }
 
     #[test]

@@ -129,7 +129,7 @@ fn garbage(random: &mut Random) -> Vec<u8> {
 mod tests {
     use super::*;
     use crate::makers::each;
-    use crate::makers::sorts::{all_pass, no_newline};
+    use crate::makers::sorts::all_pass;
     use crate::sheet::answer;
 
     /// Every line of one sort is answered with this end.
@@ -149,11 +149,6 @@ mod tests {
     #[test]
     fn valid_requests_are_answered_with_36_bits() {
         all_pass(16, 2000, valid, |line| answer(line).len() == 39);
-    }
-
-    #[test]
-    fn no_made_line_holds_a_newline() {
-        no_newline(17, 5000, line);
     }
 
     #[test]

@@ -36,8 +36,3 @@ pub fn all_pass(
 pub fn all_are(seed: u64, number: usize, sort: impl Fn(&mut Random) -> Vec<u8>, expected: &str) {
     all_pass(seed, number, sort, |line| answer(line) == expected);
 }
-
-/// No line of one sort holds a newline.
-pub fn no_newline(seed: u64, number: usize, sort: impl Fn(&mut Random) -> Vec<u8>) {
-    all_pass(seed, number, sort, |line| !line.contains(&10));
-}

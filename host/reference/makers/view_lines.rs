@@ -130,7 +130,7 @@ fn wrong_word(random: &mut Random) -> Vec<u8> {
 #[cfg(test)]
 mod tests {
     use super::*;
-    use crate::makers::sorts::{all_are, answers, no_newline};
+    use crate::makers::sorts::{all_are, answers};
 
     /// The answer gives sixteen numbers.
     fn is_view(answer: &str) -> bool {
@@ -161,11 +161,6 @@ mod tests {
             seen[pairs(&mut random)] = true;
         }
         assert_eq!(seen, [true; 229]);
-    }
-
-    #[test]
-    fn no_made_line_holds_a_newline() {
-        no_newline(51, 3000, line);
     }
 
     #[test]
