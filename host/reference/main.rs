@@ -13,9 +13,9 @@
 //! reference make-sheet SEED COUNT      prints COUNT access sheet lines
 //!
 //! What the papers define stands in model/, what chance gives in chance/, what makes lines in
-//! makers/. A channel is a row of the table in model/channel.rs, with its formulas in model/coding.rs
-//! and model/receiving.rs; a refusal a row of model/refusal.rs; a verb a row in kit.rs; a mode that
-//! makes lines a row of makers/mod.rs.
+//! makers/. A channel is a row of the table in model/channel.rs, and its formulas stand in
+//! model/coding.rs and model/receiving.rs; a refusal is a row of model/refusal.rs, a verb a row in
+//! kit.rs, a mode that makes lines a row of makers/mod.rs.
 
 // Loops keep the index k of the standard, so that each reads like its formula.
 #![allow(clippy::needless_range_loop, clippy::manual_memcpy)]

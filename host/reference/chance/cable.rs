@@ -14,9 +14,11 @@ pub fn lesson(random: &mut Random, bursts: &mut [Vec<u8>]) {
             noisy = !noisy;
         }
         let noise = if noisy { noisy_bits } else { quiet_bits };
-        change_bits(bursts, n, |c| noise(random, c));
-        let number = altered_flags(random);
-        alter_flags(random, bursts, n, number);
+        change_block(bursts, n, |c, flags| {
+            noise(random, c);
+            let number = altered_flags(random);
+            lists::alter(random, flags, number);
+        });
     }
     for burst in 0..bursts.len() {
         match random.below(120) {
@@ -30,12 +32,12 @@ pub fn lesson(random: &mut Random, bursts: &mut [Vec<u8>]) {
 /// The cable of a long stream: few bits and flags altered now and then, a bad burst seldom.
 pub fn light(random: &mut Random, bursts: &mut [Vec<u8>]) {
     for n in 0..blocks(bursts) {
-        match random.below(100) {
-            0..=11 => change_bits(bursts, n, |c| quiet_bits(random, c)),
-            12 | 13 => alter_flags(random, bursts, n, 3),
-            14 => alter_flags(random, bursts, n, 4),
+        change_block(bursts, n, |c, flags| match random.below(100) {
+            0..=11 => quiet_bits(random, c),
+            12 | 13 => lists::alter(random, flags, 3),
+            14 => lists::alter(random, flags, 4),
             _ => {}
-        }
+        });
     }
     for burst in 0..bursts.len() {
         if random.one_in(1000) {
@@ -49,11 +51,12 @@ fn blocks(bursts: &[Vec<u8>]) -> usize {
     (bursts.len() / 4).saturating_sub(1)
 }
 
-/// Changes the coded bits of block n, and nothing else.
-fn change_bits(bursts: &mut [Vec<u8>], n: usize, change: impl FnOnce(&mut [u8])) {
-    let mut c = Diagonal(n).bits(bursts);
-    change(&mut c);
+/// Changes the coded bits and the flags of block n, and nothing else.
+pub fn change_block(bursts: &mut [Vec<u8>], n: usize, change: impl FnOnce(&mut [u8], &mut [u8])) {
+    let (mut c, mut flags) = (Diagonal(n).bits(bursts), Diagonal(n).flags(bursts));
+    change(&mut c, &mut flags);
     Diagonal(n).put_bits(bursts, &c);
+    Diagonal(n).put_flags(bursts, &flags);
 }
 
 /// 0 to 3 altered bits, or only bits that are unprotected in speech.
@@ -87,13 +90,6 @@ fn altered_flags(random: &mut Random) -> usize {
         7 => 6 + random.below(3),
         _ => 0,
     }
-}
-
-/// Alters so many of the eight flags of block n.
-fn alter_flags(random: &mut Random, bursts: &mut [Vec<u8>], n: usize, number: usize) {
-    let mut flags = Diagonal(n).flags(bursts);
-    lists::alter(random, &mut flags, number);
-    Diagonal(n).put_flags(bursts, &flags);
 }
 
 /// A single burst inverted, with its flags or without, zeroed, all ones, random or the one before.
@@ -151,8 +147,10 @@ mod tests {
         let mut random = Random::new(72);
         for number in 0..=8 {
             let mut bursts = zeros(3);
-            change_bits(&mut bursts, 1, |c| noisy_bits(&mut random, c));
-            alter_flags(&mut random, &mut bursts, 1, number);
+            change_block(&mut bursts, 1, |c, flags| {
+                noisy_bits(&mut random, c);
+                lists::alter(&mut random, flags, number);
+            });
             assert!(ones(&Diagonal(1).bits(&bursts)) >= 2);
             assert_eq!(ones(&Diagonal(1).flags(&bursts)), number);
             for n in [0, 2] {

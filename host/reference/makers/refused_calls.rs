@@ -229,7 +229,7 @@ mod tests {
         }
     }
 
-    /// A kit and a lesson that have sent two blocks and taken five bursts; the lesson may have ended.
+    /// A kit and a lesson that have sent two blocks and taken five bursts, and may have ended.
     fn under_way(ended: bool) -> (Kit, Lesson) {
         let mut random = Random::new(81);
         let mut kit = Kit::fresh();

@@ -21,7 +21,7 @@ pub struct Channel {
     pub reads: usize,
     /// The number of bits that sending writes and receiving reads.
     pub writes: usize,
-    /// The identity of the base station is added to the parity bits.
+    /// An identity is added to the parity bits.
     pub has_identity: bool,
     /// g(D)
     pub generator: fn() -> Polynomial,
@@ -34,9 +34,9 @@ pub struct Channel {
     /// The eight flags of a block that is sent on four bursts; others are sent as they are coded.
     pub flags: Option<[u8; 8]>,
     /// The coded bits c of an identity and of d.
-    pub encoder: fn(&Channel, u16, &[u8]) -> Vec<u8>,
+    encoder: fn(&Channel, u16, &[u8]) -> Vec<u8>,
     /// The verdict on received bits c under an identity.
-    pub decoder: fn(&Channel, u16, &[u8]) -> Received,
+    decoder: fn(&Channel, u16, &[u8]) -> Received,
 }
 
 /// Speech, 3.1.2: g(D) = D^3 + D + 1, over d(0)..d(49)
@@ -131,10 +131,15 @@ impl Channel {
         Ok(())
     }
 
+    /// The coded bits c of information bits d that are in order, before they are put on bursts.
+    pub fn coded(&self, identity: u16, d: &[u8]) -> Vec<u8> {
+        (self.encoder)(self, identity, d)
+    }
+
     /// The bits that are sent for the information bits d.
     pub fn encode(&self, identity: u16, d: &[u8]) -> Result<Vec<u8>, Refusal> {
         self.check(identity, d, self.reads)?;
-        let c = (self.encoder)(self, identity, d);
+        let c = self.coded(identity, d);
         Ok(match self.flags {
             Some(flags) => on_four_bursts(&c, &flags),
             None => c,
@@ -184,18 +189,11 @@ mod tests {
     }
 
     #[test]
-    fn the_columns_of_a_row_agree() {
+    fn there_are_as_many_parity_bits_as_the_degree_and_zeros_behind() {
         for channel in CHANNELS {
-            let degree = (channel.generator)().len() - 1;
-            assert_eq!(channel.parity.1, degree, "{}", channel.name);
-            // Four zeros are the tail of u, and behind the pairs stand the unprotected bits.
             let (first, number) = channel.parity;
+            assert_eq!(number + 1, (channel.generator)().len(), "{}", channel.name);
             assert!(first + number + 4 <= channel.pairs, "{}", channel.name);
-            let d = vec![0; channel.reads];
-            let coded = (channel.encoder)(&channel, 0, &d).len();
-            let unprotected = coded - channel.protected();
-            let (class_1, tail) = (channel.reads - unprotected, 4);
-            assert_eq!(class_1 + number + tail, channel.pairs, "{}", channel.name);
         }
     }
 
@@ -325,7 +323,7 @@ mod tests {
         altered: usize,
     ) -> (Vec<u8>, Vec<u8>) {
         let d = random_bits(random, channel.reads);
-        let mut c = (channel.encoder)(channel, identity, &d);
+        let mut c = channel.coded(identity, &d);
         alter(random, &mut c[..channel.protected()], altered);
         (d, c)
     }
@@ -380,7 +378,7 @@ mod tests {
     fn each_parity_bit_counts() {
         let mut random = Random::new(41);
         for channel in CHANNELS {
-            let c = (channel.encoder)(&channel, 5, &vec![1; channel.reads]);
+            let c = channel.coded(5, &vec![1; channel.reads]);
             let e = received(&mut random, &channel, c.clone());
             assert!(channel.decode(5, &e).is_ok());
             let (first, number) = channel.parity;

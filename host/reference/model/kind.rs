@@ -1,5 +1,7 @@
 //! The two kinds of blocks in a stream.
 
+#[cfg(test)]
+use crate::chance::{lists::random_bits, random::Random};
 use crate::model::bits::ones;
 use crate::model::channel::{Channel, CONTROL, SPEECH};
 
@@ -51,6 +53,20 @@ impl Kind {
             _ => Some(Kind::Facch),
         }
     }
+}
+
+/// Random blocks of the kinds that the letters name: s for speech, f for FACCH.
+#[cfg(test)]
+pub fn blocks(seed: u64, kinds: &str) -> Vec<Vec<u8>> {
+    let mut random = Random::new(seed);
+    let block = |letter| {
+        let kind = match letter {
+            's' => Kind::Speech,
+            _ => Kind::Facch,
+        };
+        random_bits(&mut random, kind.channel().reads)
+    };
+    kinds.chars().map(block).collect()
 }
 
 #[cfg(test)]

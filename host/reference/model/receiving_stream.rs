@@ -79,20 +79,15 @@ impl Receiver {
 #[cfg(test)]
 mod tests {
     use super::*;
+    use crate::chance::cable::change_block;
     use crate::chance::lists::{alter, random_bits};
     use crate::chance::random::Random;
     use crate::model::bits::inverted;
     use crate::model::burst::cut;
     use crate::model::burst::Interleaving::Diagonal;
+    use crate::model::kind::blocks;
     use crate::model::refusal::Refusal::*;
     use crate::model::sending_stream::sent_and_ended;
-
-    /// Random blocks of the kinds that the letters name: s for speech, f for FACCH.
-    fn blocks(seed: u64, kinds: &str) -> Vec<Vec<u8>> {
-        let mut random = Random::new(seed);
-        let block = |kind| random_bits(&mut random, if kind == 's' { 260 } else { 184 });
-        kinds.chars().map(block).collect()
-    }
 
     /// What a fresh receiver makes of bursts given in order.
     fn given(bursts: &[Vec<u8>]) -> Vec<Taken> {
@@ -133,18 +128,6 @@ mod tests {
             n,
             refusal: BadParity { count },
         }
-    }
-
-    /// Changes the coded bits and the flags of block n, and nothing else.
-    fn change_block(
-        bursts: &mut [Vec<u8>],
-        n: usize,
-        change: impl FnOnce(&mut Vec<u8>, &mut Vec<u8>),
-    ) {
-        let (mut c, mut flags) = (Diagonal(n).bits(bursts), Diagonal(n).flags(bursts));
-        change(&mut c, &mut flags);
-        Diagonal(n).put_bits(bursts, &c);
-        Diagonal(n).put_flags(bursts, &flags);
     }
 
     /// Alters so many of the flags of block n.
@@ -218,8 +201,8 @@ mod tests {
                 let mut bursts = cut(&random_bits(&mut random, 28 * BURST));
                 let kind = Kind::of_length(blocks[n].len()).unwrap();
                 change_block(&mut bursts, n, |c, flags| {
-                    *c = Diagonal(n).bits(&sent);
-                    *flags = Diagonal(n).flags(&sent);
+                    c.copy_from_slice(&Diagonal(n).bits(&sent));
+                    flags.copy_from_slice(&Diagonal(n).flags(&sent));
                     let protected = kind.channel().protected();
                     alter(&mut random, &mut c[..protected], altered);
                     alter(&mut random, flags, altered);
@@ -233,10 +216,9 @@ mod tests {
     fn unprotected_bits_are_given_as_received() {
         let mut blocks = blocks(68, "sss");
         let mut bursts = sent_and_ended(&blocks);
-        change_block(&mut bursts, 1, |c, _| {
-            *c = [&c[..378], &inverted(&c[378..])].concat();
-        });
-        blocks[1] = [&blocks[1][..182], &inverted(&blocks[1][182..])].concat();
+        let turn_over = |bits: &mut [u8]| bits.copy_from_slice(&inverted(bits));
+        change_block(&mut bursts, 1, |c, _| turn_over(&mut c[378..]));
+        turn_over(&mut blocks[1][182..]);
         let expected: Vec<Taken> = (0..3).map(|n| as_sent(n, &blocks[n], 0)).collect();
         assert_eq!(answers(&bursts), expected);
     }

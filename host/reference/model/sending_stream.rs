@@ -85,17 +85,9 @@ pub fn sent_and_ended(blocks: &[Vec<u8>]) -> Vec<Vec<u8>> {
 #[cfg(test)]
 mod tests {
     use super::*;
-    use crate::chance::lists::random_bits;
-    use crate::chance::random::Random;
     use crate::model::burst::{burst_and_place, places};
+    use crate::model::kind::blocks;
     use crate::model::refusal::Refusal::*;
-
-    /// Random blocks, speech and FACCH in turn.
-    fn blocks(seed: u64, number: usize) -> Vec<Vec<u8>> {
-        let mut random = Random::new(seed);
-        let block = |n| random_bits(&mut random, if n % 2 == 0 { 260 } else { 184 });
-        (0..number).map(block).collect()
-    }
 
     /// A stream of so many speech blocks of zeros.
     fn after(number: usize) -> Sender {
@@ -114,7 +106,7 @@ mod tests {
     #[test]
     fn n_blocks_make_4n_and_4_bursts() {
         for number in 1..=9 {
-            let bursts = sent_and_ended(&blocks(61, number));
+            let bursts = sent_and_ended(&blocks(61, &"sfsfsfsfs"[..number]));
             assert_eq!(bursts.len(), 4 * number + 4);
             assert!(bursts.iter().all(|e| e.len() == 116));
         }
@@ -123,7 +115,7 @@ mod tests {
 
     #[test]
     fn bursts_are_the_sum_of_two_interleaved_blocks() {
-        let blocks = blocks(62, 5);
+        let blocks = blocks(62, "sfsfs");
         let mut i = vec![vec![0; 114]; 24];
         for n in 0..5 {
             let (c, _) = coded(&blocks[n]).unwrap();
@@ -162,7 +154,7 @@ mod tests {
         for seed in 0..20 {
             for kinds in [0, 1] {
                 // The first block is speech, or FACCH.
-                let bursts = sent_and_ended(&blocks(seed, 6)[kinds..]);
+                let bursts = sent_and_ended(&blocks(seed, "sfsfsf")[kinds..]);
                 let last = bursts.len() - 4;
                 for e in &bursts[..4] {
                     assert_eq!((every_second(e, 1), e[57]), (vec![0; 57], 0));
@@ -232,7 +224,7 @@ mod tests {
 
     #[test]
     fn refused_calls_leave_the_stream() {
-        let blocks = blocks(63, 4);
+        let blocks = blocks(63, "sfsf");
         let mut sender = Sender::fresh();
         let mut written = Vec::new();
         assert_eq!(sender.end(), Err(NothingSent));
