@@ -148,9 +148,10 @@ mod tests {
 
     #[test]
     fn valid_requests_are_viewed() {
-        for sort in [|random: &mut Random| valid(random).line(), of_nothing] {
-            assert!(answers(49, 100, sort).iter().all(|answer| is_view(answer)));
-        }
+        let views = answers(49, 100, |random| valid(random).line());
+        assert!(views.iter().all(|answer| is_view(answer)));
+        let views = answers(49, 100, of_nothing);
+        assert!(views.iter().all(|answer| is_view(answer)));
     }
 
     #[test]
