@@ -161,7 +161,7 @@ mod tests {
     use super::*;
     use crate::chance::lists::{alter, random_bits};
     use crate::chance::random::Random;
-    use crate::model::bits::{add, inverted, ones};
+    use crate::model::bits::{add, inverted, ones, ones_at};
     use crate::model::burst::BURST;
     use crate::model::coding::convolve;
     use crate::model::polynomial::{leaves_all_ones, parity};
@@ -209,10 +209,13 @@ mod tests {
     }
 
     #[test]
-    fn the_control_generator_is_the_product() {
-        // D^40 + D^26 + D^23 + D^17 + D^3 + 1
-        let product = from_powers(&[40, 26, 23, 17, 3, 0]);
-        assert_eq!((CONTROL.generator)(), product);
+    fn the_generators_have_the_powers_of_document_000() {
+        let powers = |channel: Channel| ones_at(&(channel.generator)());
+        assert_eq!(powers(SPEECH), [0, 1, 3]);
+        // The product (D^23 + 1)(D^17 + D^3 + 1)
+        assert_eq!(powers(CONTROL), [0, 3, 17, 23, 26, 40]);
+        assert_eq!(powers(ACCESS), [0, 1, 2, 3, 5, 6]);
+        assert_eq!(powers(SCH), [0, 2, 4, 5, 6, 8, 10]);
     }
 
     #[test]

@@ -139,6 +139,16 @@ mod tests {
     }
 
     #[test]
+    fn speech_parity_is_over_d_0_to_d_49() {
+        for k in 0..260 {
+            let mut d = [0; 260];
+            d[k] = 1;
+            let changed = speech_parity(&d) != [1, 1, 1];
+            assert_eq!(changed, k <= 49, "d({})", k);
+        }
+    }
+
+    #[test]
     fn class_1_ends_at_181_and_class_2_begins_at_182() {
         let mut d = [0; 260];
         d[181] = 1;
