@@ -3,7 +3,7 @@ use answers::Heard;
 use trellis::LONGEST;
 ghost use mathlib.Core.List.{_++_};
 ghost use mathlib.Core.Path.{_≡_};
-ghost use Prim.Native.Nat.{_-_, _≤_, _<_, _^_};
+ghost use Prim.Native.Nat.{_+_, _-_, _*_, _≤_, _<_, _^_};
 ghost use lib.Bits.{bitXor};
 ghost use lib.Dec.{eqb};
 ghost use lib.ListN.{length, drop};
@@ -19,8 +19,8 @@ ghost use Rattle.coder.specs.laws.Format.{Fits, size, generatorOf, laidO
 
 // What such a block is: its generator, D^degree + generator, its bits, and its coded bits.
 pub(crate) struct Format {
-    generator: u64,
-    degree: u32,
+    pub(crate) generator: u64,
+    pub(crate) degree: u32,
     pub(crate) bits: usize,
     pub(crate) coded: usize,
 }
@@ -59,25 +59,25 @@ pub(crate) fn append_ones(d: &[u8], m: usize, u: &mut [u8])
 }
 
 // d, its parity bits with the colour added, and four zeros. The parity bits are what d followed by ones leaves.
-fn protect(f: Format, colour: u64, d: &[u8], u: &mut [u8])
-    requires { ⌜ (Fits f) × (Bits (now d)) × (length (now d) ≡ f .bits) × (length (now u) ≡ size f) ⌝ }
-    ensures { λ _. ⌜ now (u .exit) ≡ laidOut f colour (now (d .entry)) ⌝ }
+fn protect(generator: u64, degree: u32, colour: u64, d: &[u8], u: &mut [u8])
+    requires { ⌜ (Generates generator degree) × (Bits (now d)) × (length (now u) ≡ length (now d) + degree + 4) ⌝ }
+    ensures { λ _. ⌜ now (u .exit) ≡ laidOut generator degree colour (now (d .entry)) ⌝ }
 {
     let n = d.len();
-    let m = n + f.degree as usize;
+    let m = n + degree as usize;
     append_ones(d, m, u);
-    let p = parity::remainder(f.generator, f.degree, &u[0..m]);
+    let p = parity::remainder(generator, degree, &u[0..m]);
     bits::put_digits(p ^ colour, &mut u[n..m]);
 }
 
-// The pairs of that u.
-pub(crate) fn code(f: Format, colour: u64, d: &[u8], c: &mut [u8])
-    requires { ⌜ (Fits f) × Given (f .bits) (f .coded) (now d) (now c) ⌝ }
-    ensures { λ _. ⌜ now (c .exit) ≡ coded (laidOut f colour (now (d .entry))) ⌝ }
+// The pairs of that u. The generator and its degree are handed over by themselves: so LLVM makes code for each format.
+pub(crate) fn code(generator: u64, degree: u32, colour: u64, d: &[u8], c: &mut [u8])
+    requires { ⌜ (Generates generator degree) × (Bits (now d)) × (length (now d) + degree + 4 ≤ longest) × (length (now c) ≡ 2 * (length (now d) + degree + 4)) ⌝ }
+    ensures { λ _. ⌜ now (c .exit) ≡ coded (laidOut generator degree colour (now (d .entry))) ⌝ }
 {
-    let l = f.bits + f.degree as usize + 4;
+    let l = d.len() + degree as usize + 4;
     let mut u = [0u8; LONGEST];
-    protect(f, colour, d, &mut u[0..l]);
+    protect(generator, degree, colour, d, &mut u[0..l]);
     trellis::code(&u[0..l], c);
 }
 

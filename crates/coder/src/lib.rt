@@ -49,11 +49,11 @@ fn judge(d: &[u8], reads: usize, out: usize, writes: usize, identity: u8) -> Tol
 // An entry for a block whose parity stands at its end, the identity added to it.
 fn send_block(f: Format, identity: u8, d: &[u8], c: &mut [u8]) -> Told
     requires { ⌜ Fits f ⌝ }
-    ensures { λ r. ⌜ Meets (entry (f .bits) (f .coded) identity (now (d .entry)) (coded (laidOut f identity (now (d .entry)))) (now (c .entry))) r (now (c .exit)) ⌝ }
+    ensures { λ r. ⌜ Meets (entry (f .bits) (f .coded) identity (now (d .entry)) (coded (laidOut (f .generator) (f .degree) identity (now (d .entry)))) (now (c .entry))) r (now (c .exit)) ⌝ }
 {
     let told = judge(d, f.bits, c.len(), f.coded, identity);
     if let Told::Done = told {
-        block::code(f, identity as u64, d, c);
+        block::code(f.generator, f.degree, identity as u64, d, c);
     }
     told
 }

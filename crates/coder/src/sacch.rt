@@ -16,7 +16,7 @@ pub(crate) fn code(d: &[u8], e: &mut [u8])
     ensures { λ _. ⌜ now (e .exit) ≡ sacchMessage (now (d .entry)) ⌝ }
 {
     let mut c = [0u8; 456];
-    crate::block::code(CONTROL, 0, d, &mut c);
+    crate::block::code(parity::CONTROL, 40, 0, d, &mut c);
     burst::fill_four(&c, &c, 0b11111111, e);
 }
 

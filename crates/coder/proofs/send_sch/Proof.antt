@@ -6,7 +6,7 @@ use Rattle.coder.specs.Blocks.{schBurst}
 use Rattle.coder.specs.Entries.{schSent}
 use Rattle.coder.specs.laws.Blocks.{sch-is}
 use Rattle.coder.specs.laws.Entries.{same-sent}
-use Rattle.coder.specs.laws.Format.{schF, sch-fits, laidOut}
+use Rattle.coder.specs.laws.Format.{sch-fits, laidOut}
 use Rattle.coder.proofs.send_sch.Statement.{statement}
 use Rattle.coder.proofs.send_sch.Tie as tie
 
@@ -15,7 +15,7 @@ unfolding schSent
 returns c =
     let s = c .before .before .before .before .before .before .args in
     let done = c .before .before .send-block in
-    let u = laidOut schF 0 (s .d .now) in
+    let u = laidOut 0b0101110101 10 0 (s .d .now) in
     same-sent 25 78 0 (s .d .now) (coded u) (schBurst (s .d .now)) (s .e .now) (done .result) (done .last .1 .1 .1 .0)
     (λ bits i. sch-is (s .d .now) bits (coded u) refl) (done .ensures)
 

@@ -15,23 +15,23 @@ use Rattle.trellis.specs.Pairs.{coded}
 use Rattle.trellis.specs.laws.Pairs.{length-coded}
 use Rattle.coder.specs.Blocks.{controlU, controlBlock, colour, accessU, accessBurst, schU, schBurst, speechU, speechBlock}
 use Rattle.coder.specs.laws.Speech.{length-u}
-use Rattle.coder.specs.laws.Format.{laidOut, controlF, accessF, schF}
+use Rattle.coder.specs.laws.Format.{laidOut}
 use Rattle.coder.specs.laws.Protected.{digits-plain, digits-coloured}
 
 module _ (d : List ℕ) (bd : Bits d) where
-  pub control-is : (c : List ℕ) → c ≡ coded (laidOut controlF 0 d) → c ≡ controlBlock d
+  pub control-is : (c : List ℕ) → c ≡ coded (laidOut 0x4820009 40 0 d) → c ≡ controlBlock d
   unfolding controlBlock controlU
   control-is c e =
       e ∙ ap (λ (p : List ℕ). coded (d ++ (p ++ zeros 4)))
       (digits-plain (digits 40 0x4820009) d bd 40 (length-digits 40 0x4820009) ∙ ap (λ (g : List ℕ). parity g d) control-number)
 
-  pub sch-is : (c : List ℕ) → c ≡ coded (laidOut schF 0 d) → c ≡ schBurst d
+  pub sch-is : (c : List ℕ) → c ≡ coded (laidOut 0b0101110101 10 0 d) → c ≡ schBurst d
   unfolding schBurst schU
   sch-is c e =
       e ∙ ap (λ (p : List ℕ). coded (d ++ (p ++ zeros 4)))
       (digits-plain (digits 10 0b0101110101) d bd 10 (length-digits 10 0b0101110101) ∙ ap (λ (g : List ℕ). parity g d) sch-number)
 
-  pub access-is : (i : ℕ) → i ≤ 63 → (c : List ℕ) → c ≡ coded (laidOut accessF i d) → c ≡ accessBurst i d
+  pub access-is : (i : ℕ) → i ≤ 63 → (c : List ℕ) → c ≡ coded (laidOut 0b101111 6 i d) → c ≡ accessBurst i d
   unfolding accessBurst accessU colour
   access-is i h c e =
       let l : i < 2 ^ 6 = omega arith in

@@ -20,8 +20,8 @@ abbrev pub generatorOf : Format → List ℕ
 generatorOf f = digits (f .degree) (f .generator)
 
 -- u of the bits d: the parity bits by their number, to which the colour is added
-abbrev pub laidOut : Format → ℕ → List ℕ → List ℕ
-laidOut f colour d = d ++ (digits (f .degree) (bitXor (value (parity (generatorOf f) d)) colour) ++ zeros 4)
+abbrev pub laidOut : ℕ → ℕ → ℕ → List ℕ → List ℕ
+laidOut generator degree colour d = d ++ (digits degree (bitXor (value (parity (digits degree generator) d)) colour) ++ zeros 4)
 
 -- what every format is; no identity has more bits than the parity
 pub record Fits (f : Format) : Type 0 where

@@ -10,8 +10,7 @@ use Rattle.bits.specs.Bits.{Bits, add, digits, value, ones, zeros}
 use Rattle.bits.specs.laws.Parts.{put, put-three, put-middle, length-lent, length-put}
 use Rattle.bits.specs.laws.Sum.{length-ones, length-zeros, bits-ones, bits-zeros, bits-append, length-add, bits-add}
 use Rattle.bits.specs.laws.Value.{length-digits, bits-digits, value-digits, digits-value, value-add}
-use Rattle.coder.specs.declared.block.Format.{Format}
-use Rattle.coder.specs.laws.Format.{Fits, size, generatorOf, laidOut}
+use Rattle.coder.specs.laws.Format.{laidOut}
 use Rattle.parity.specs.Asked.{Generates}
 use Rattle.parity.specs.Division.{parity, remainder}
 use Rattle.parity.specs.laws.Division.{length-parity, bits-parity}
@@ -51,16 +50,13 @@ module _ (g d : List ℕ) (bd : Bits d) (r : ℕ) (lg : length g ≡ r) where
       ∙ digits-value (add p (digits r c)) (bits-add p (digits r c) (bits-digits r c))
 
 -- ---- the ones are divided, and what is left takes their place
-module _ (f : Format) (colour : ℕ) (d u v : List ℕ) (fits : Fits f) (bd : Bits d) (ld : length d ≡ f .bits) (lu : length u ≡ size f)
-    (ev : v ≡ d ++ (ones (length d + f .degree - length d) ++ zeros (length u - (length d + f .degree)))) where
-  abbrev r : ℕ
-  r = f .degree
-
+module _ (g r colour : ℕ) (d u v : List ℕ) (generates : Generates g r) (bd : Bits d) (lu : length u ≡ length d + r + 4)
+    (ev : v ≡ d ++ (ones (length d + r - length d) ++ zeros (length u - (length d + r)))) where
   shape : v ≡ d ++ (ones r ++ zeros 4)
   shape =
       let n = length d in
       let a : n + r - n ≡ r = omega arith in
-      let b : length u - (n + r) ≡ 4 = omega (arith, lu, ld) in
+      let b : length u - (n + r) ≡ 4 = omega (arith, lu) in
       ev ∙ rw (a, b)
 
   front : take (length d + r - 0) v ≡ d ++ ones r
@@ -68,50 +64,55 @@ module _ (f : Format) (colour : ℕ) (d u v : List ℕ) (fits : Fits f) (bd : Bi
       let l : length (d ++ ones r) ≡ length d + r - 0 = length-append d (ones r) ∙ rw (length-ones r) (omega arith) in
       ap (take (length d + r - 0)) (shape ∙ sym (append-assoc d (ones r) (zeros 4))) ∙ take-at (d ++ ones r) (zeros 4) (length d + r - 0) l
 
-  pub front-divisible : Generates (f .generator) r × (r ≤ length (take (length d + r - 0) v)) × Bits (take (length d + r - 0) v)
+  pub front-divisible : Generates g r × (r ≤ length (take (length d + r - 0) v)) × Bits (take (length d + r - 0) v)
   front-divisible = (
-    fits .generates,
+    generates,
     rw (front, length-append d (ones r), length-ones r) (omega arith),
     rw front (bits-append d (ones r) bd (bits-ones r)),
   )
 
-  pub protected : (p : ℕ) (q : List ℕ) → p ≡ value (remainder (generatorOf f) (take (length d + r - 0) v))
+  pub protected : (p : ℕ) (q : List ℕ) → p ≡ value (remainder (digits r g) (take (length d + r - 0) v))
       → q ≡ digits (length (take (length d + r - length d) (drop (length d) v))) (bitXor p colour)
-      → put (length d) (length d + r - length d) q v ≡ laidOut f colour d
+      → put (length d) (length d + r - length d) q v ≡ laidOut g r colour d
   unfolding parity
   protected p q ep eq =
       let n = length d in
-      let g = generatorOf f in
       let a : n + r - n ≡ r = omega arith in
       let lv : length v ≡ n + (r + 4) = ap length shape ∙ rw (length-append d (ones r ++ zeros 4), length-append (ones r) (zeros 4), length-ones r, length-zeros 4) in
-      let fp : p ≡ value (remainder g (d ++ ones (length g))) =
-      ep ∙ ap (λ (w : List ℕ). value (remainder g w)) (front ∙ ap (λ (k : ℕ). d ++ ones k) (sym (length-digits r (f .generator)))) in
+      let fp : p ≡ value (remainder (digits r g) (d ++ ones (length (digits r g)))) =
+      ep ∙ ap (λ (w : List ℕ). value (remainder (digits r g) w)) (front ∙ ap (λ (k : ℕ). d ++ ones k) (sym (length-digits r g))) in
       let fq : q ≡ digits r (bitXor p colour) = eq ∙ ap (λ (k : ℕ). digits k (bitXor p colour)) (length-lent v n (n + r - n) (omega (arith, lv)) ∙ a) in
       ap (put n (n + r - n) q) shape
       ∙ put-middle d (ones r) (zeros 4) q n (n + r - n) refl (length-ones r ∙ sym a)
       ∙ ap (λ (l : List ℕ). d ++ (l ++ zeros 4)) (fq ∙ ap (λ (x : ℕ). digits r (bitXor x colour)) fp)
 
 -- ---- u is bits, and as long as it should be; it stands at the front of what holds it
-module _ (f : Format) (colour : ℕ) (d : List ℕ) (bd : Bits d) (ld : length d ≡ f .bits) where
+module _ (g r colour : ℕ) (d : List ℕ) (bd : Bits d) where
   abbrev u : List ℕ
-  u = laidOut f colour d
+  u = laidOut g r colour d
+
+  abbrev size : ℕ
+  size = length d + r + 4
 
   bits-u : Bits u
   bits-u =
-      let x = bitXor (value (parity (generatorOf f) d)) colour in
-      bits-append d (digits (f .degree) x ++ zeros 4) bd (bits-append (digits (f .degree) x) (zeros 4) (bits-digits (f .degree) x) (bits-zeros 4))
+      let x = bitXor (value (parity (digits r g) d)) colour in
+      bits-append d (digits r x ++ zeros 4) bd (bits-append (digits r x) (zeros 4) (bits-digits r x) (bits-zeros 4))
 
-  length-u : length u ≡ size f
+  length-u : length u ≡ size
   length-u =
-      let x = bitXor (value (parity (generatorOf f) d)) colour in
-      rw (length-append d (digits (f .degree) x ++ zeros 4), length-append (digits (f .degree) x) (zeros 4), length-digits (f .degree) x, length-zeros 4) (omega (arith, ld))
+      let x = bitXor (value (parity (digits r g) d)) colour in
+      rw (length-append d (digits r x ++ zeros 4), length-append (digits r x) (zeros 4), length-digits r x, length-zeros 4) (omega arith)
 
-  module _ (v w : List ℕ) (k : ℕ) (lk : k ≡ size f) (ew : w ≡ u) where
-    pub laid-front : take (k - 0) (put 0 (k - 0) w v) ≡ u
-    laid-front = take-at w (drop (k - 0) v) (k - 0) (ap length ew ∙ length-u ∙ omega (arith, lk)) ∙ ew
+  module _ (v w : List ℕ) (ew : w ≡ u) where
+    long-w : length w ≡ size - 0
+    long-w = ap length ew ∙ length-u ∙ omega arith
 
-    pub laid-long : k ≤ length v → k ≤ length (put 0 (k - 0) w v)
-    laid-long h = rw (length-put v w 0 (k - 0) (omega arith) (ap length ew ∙ length-u ∙ omega (arith, lk))) h
+    pub laid-front : take (size - 0) (put 0 (size - 0) w v) ≡ u
+    laid-front = take-at w (drop (size - 0) v) (size - 0) long-w ∙ ew
 
-    pub coded-asked : (c : List ℕ) → Fits f → length c ≡ f .coded → Bits (take (k - 0) (put 0 (k - 0) w v)) × (length c ≡ 2 * length (take (k - 0) (put 0 (k - 0) w v)))
-    coded-asked c fits lc = (rw laid-front bits-u, lc ∙ fits .long ∙ ap (λ (n : ℕ). 2 * n) (sym (ap length laid-front ∙ length-u)))
+    pub laid-long : size ≤ length v → size ≤ length (put 0 (size - 0) w v)
+    laid-long h = rw (length-put v w 0 (size - 0) (omega arith) long-w) h
+
+    pub coded-asked : (c : List ℕ) → length c ≡ 2 * size → Bits (take (size - 0) (put 0 (size - 0) w v)) × (length c ≡ 2 * length (take (size - 0) (put 0 (size - 0) w v)))
+    coded-asked c lc = (rw laid-front bits-u, lc ∙ ap (λ (n : ℕ). 2 * n) (sym (ap length laid-front ∙ length-u)))

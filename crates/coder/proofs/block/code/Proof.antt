@@ -1,41 +1,37 @@
 -- `coder::block::code` is right: what `protect` lays out is bits, of half the length of c, and is coded.
-use mathlib.Core.Path.{_≡_, refl, ap, _∙_}
-use native.Mathlib.Omega.{arith}
+use mathlib.Core.Path.{ap, _∙_}
 use borrow.Author.Needs.{needs}
 use lib.ListN.{replicate}
 use Rattle.trellis.specs.Pairs.{coded}
-use Rattle.coder.specs.laws.Format.{size}
 use Rattle.coder.specs.laws.Protected.{laid-front, laid-long, coded-asked}
 use Rattle.coder.proofs.block.code.Statement.{statement}
 use Rattle.coder.proofs.block.code.Tie as tie
 
 part-code-end : tie.Need-part-code-end
 part-code-end c =
-    let start = c .before .before .before .before .before .before .before .before in
+    let start = c .before .before .before .before .before .before in
     let s = start .args in
     let laid = c .before .before .protect in
-    laid-long (s .f) (s .colour) (s .d .now) (start .pre .1 .bits) (start .pre .1 .reads) (replicate 228 0) (laid .last .1 .1 .1 .0) (size (s .f)) refl (laid .ensures) (start .pre .0 .short)
+    laid-long (s .generator) (s .degree) (s .colour) (s .d .now) (start .pre .1) (replicate 228 0) (laid .last .1 .1 .1 .1 .0) (laid .ensures) (start .pre .2)
 
 code-requires : tie.Need-code-requires
 code-requires c κs =
-    let start = c .before .before .before .before .before .before .before .before .before .before in
+    let start = c .before .before .before .before .before .before .before .before in
     let s = start .args in
     let laid = c .before .before .before .before .protect in
-    coded-asked (s .f) (s .colour) (s .d .now) (start .pre .1 .bits) (start .pre .1 .reads) (replicate 228 0) (laid .last .1 .1 .1 .0) (size (s .f)) refl (laid .ensures) (s .c .now) (start .pre .0) (start .pre .1 .lends)
+    coded-asked (s .generator) (s .degree) (s .colour) (s .d .now) (start .pre .1) (replicate 228 0) (laid .last .1 .1 .1 .1 .0) (laid .ensures) (s .c .now) (start .pre .3)
 
 returns : tie.Need-returns
 returns c =
-    let start = c .before .before .before .before .before .before .before .before .before .before .before .before .before in
+    let start = c .before .before .before .before .before .before .before .before .before .before .before in
     let s = start .args in
     let laid = c .before .before .before .before .before .before .before .protect in
-    c .before .before .code .ensures
-    ∙ ap coded (laid-front (s .f) (s .colour) (s .d .now) (start .pre .1 .bits) (start .pre .1 .reads) (replicate 228 0) (laid .last .1 .1 .1 .0) (size (s .f)) refl (laid .ensures))
+    c .before .before .code .ensures ∙ ap coded (laid-front (s .generator) (s .degree) (s .colour) (s .d .now) (start .pre .1) (replicate 228 0) (laid .last .1 .1 .1 .1 .0) (laid .ensures))
 
 pub code-spec : {M : Type 1} → statement M
 code-spec =
     tie.close
     (tie.spec
-    (λ c. search needs)
     (λ c. search needs)
     (λ c. search needs)
     (λ c. search needs)

@@ -6,26 +6,25 @@ use Rattle.coder.proofs.block.protect.Tie as tie
 
 remainder-requires : tie.Need-remainder-requires
 remainder-requires c κs =
-    let start = c .before .before .before .before .before .before .before .before .before in
+    let start = c .before .before .before .before .before .before .before .before in
     let s = start .args in
     let laid = c .before .before .before .before .append-ones in
-    front-divisible (s .f) (s .colour) (s .d .now) (s .u .now) (laid .last .1 .1 .0) (start .pre .0) (start .pre .1) (start .pre .2) (start .pre .3) (laid .ensures)
+    front-divisible (s .generator) (s .degree) (s .colour) (s .d .now) (s .u .now) (laid .last .1 .1 .0) (start .pre .0) (start .pre .1) (start .pre .2) (laid .ensures)
 
 returns : tie.Need-returns
 returns c =
-    let start = c .before .before .before .before .before .before .before .before .before .before .before .before .before .before in
+    let start = c .before .before .before .before .before .before .before .before .before .before .before .before .before in
     let s = start .args in
     let laid = c .before .before .before .before .before .before .before .before .before .append-ones in
     let divided = c .before .before .before .before .remainder in
     let placed = c .before .before .put-digits in
-    protected (s .f) (s .colour) (s .d .now) (s .u .now) (laid .last .1 .1 .0) (start .pre .0) (start .pre .1) (start .pre .2) (start .pre .3) (laid .ensures)
+    protected (s .generator) (s .degree) (s .colour) (s .d .now) (s .u .now) (laid .last .1 .1 .0) (start .pre .0) (start .pre .1) (start .pre .2) (laid .ensures)
     (divided .result) (placed .last .1 .0) (divided .ensures) (placed .ensures)
 
 pub protect-spec : {M : Type 1} → statement M
 protect-spec =
     tie.close
     (tie.spec
-    (λ c. search needs)
     (λ c. search needs)
     (λ c κs. search needs)
     (λ c. search needs)
