@@ -4,7 +4,7 @@ use Prim.Native.Nat.{ℕ, _+_, _%_}
 use lib.Dec.{ltb}
 use Rattle.bits.specs.Bits.{pick, tab, value}
 use Rattle.burst.specs.Numbers.{firstBurst}
-use Rattle.burst.specs.Places.{eAt, hl, hu}
+use Rattle.places.specs.Places.{eAt, hl, hu}
 use Rattle.burst.specs.Ring.{heldBit}
 
 -- 01: bit k of block n goes to burst 4n + (k mod 8), at its e-index

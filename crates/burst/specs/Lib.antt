@@ -1,5 +1,4 @@
 pub mod Numbers
-pub mod Places
 pub mod Ring
 pub mod Held
 pub mod laws

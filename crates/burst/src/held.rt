@@ -2,7 +2,6 @@
 use crate::numbers::BlockNumber;
 use crate::numbers::BurstNumber;
 use crate::numbers::first_burst;
-use crate::places::gather;
 use crate::ring::held_bit;
 use crate::ring::in_order;
 ghost use mathlib.Core.Path.{_≡_};
@@ -10,7 +9,7 @@ ghost use Prim.Native.Nat.{_≤_, _<_};
 ghost use lib.Dec.{ltb};
 ghost use lib.ListN.{length};
 ghost use Rattle.bits.specs.Bits.{pick};
-ghost use Rattle.burst.specs.Places.{hl, hu};
+ghost use Rattle.places.specs.Places.{hl, hu};
 ghost use Rattle.burst.specs.Held.{heldBlock, heldFlagAt, heldFlags};
 
 // The coded bits of block n.
@@ -20,7 +19,7 @@ pub fn gather_block(n: BlockNumber, held: &[u8], c: &mut [u8])
 {
     let mut bursts = [0u8; 928];
     in_order(first_burst(n), held, &mut bursts);
-    gather(&bursts, c);
+    places::gather(&bursts, c);
     bits::lowest(c);
 }
 

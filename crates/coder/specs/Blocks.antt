@@ -6,7 +6,7 @@ use lib.ListN.{getD, take, drop}
 use Rattle.bits.specs.Bits.{pick, tab, add, zeros, digits}
 use Rattle.parity.specs.Division.{parity, speechG, controlG, accessG, schG}
 use Rattle.trellis.specs.Pairs.{coded}
-use Rattle.burst.specs.Places.{four}
+use Rattle.places.specs.Places.{four}
 
 -- 000, 3.1.2.1 a): the three parity bits over the first 50 bits
 unfoldable pub speechP : List ℕ → List ℕ

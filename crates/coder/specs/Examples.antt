@@ -9,7 +9,7 @@ use Rattle.parity.specs.Division.{occurs, product, lower, divide, remainder, pa
 use Rattle.trellis.specs.Pairs.{back, first, second, codedAt, coded, pairOf}
 use Rattle.register.specs.Register.{from, bit, way, best}
 use Rattle.trellis.specs.Nearest.{differ, pairCost, rowAt, row}
-use Rattle.burst.specs.Places.{placeOf, eOf, eAt}
+use Rattle.places.specs.Places.{placeOf, eOf, eAt}
 use Rattle.answers.specs.Answers.{sentOr, tells}
 use Rattle.coder.specs.Entries.{judged, unreached, trellisViewed}
 use Rattle.coder.specs.Blocks.{speechP, speechUAt, speechU, speechBlock, colour, accessU, accessBurst}

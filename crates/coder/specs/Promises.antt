@@ -5,7 +5,7 @@ use mathlib.Core.Path.{_≡_}
 use Prim.Native.Nat.{ℕ, _≤_}
 use lib.ListN.{take, drop}
 use Rattle.trellis.specs.Nearest.{disagreements}
-use Rattle.burst.specs.Places.{gathered}
+use Rattle.places.specs.Places.{gathered}
 use Rattle.answers.specs.Answers.{Answer, returned, ofTold, ofHeard}
 use Rattle.answers.specs.declared.Heard.{Heard}
 use Rattle.answers.specs.declared.Told.{Told}

@@ -7,7 +7,7 @@ use lib.ListN.{length, getD, take, drop}
 use Rattle.bits.specs.Bits.{pick, tab, add, ones, digits, value, allBits}
 use Rattle.parity.specs.Division.{remainder, speechG, controlG, accessG, schG}
 use Rattle.trellis.specs.Nearest.{nearest, nearestCount}
-use Rattle.burst.specs.Places.{gathered}
+use Rattle.places.specs.Places.{gathered}
 use Rattle.answers.specs.Answers.{Answer, hears}
 use Rattle.answers.specs.declared.Heard.{Heard}
 use Rattle.answers.specs.declared.Heard.the-variants as heard

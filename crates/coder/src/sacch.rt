@@ -5,7 +5,7 @@ ghost use mathlib.Core.Path.{_≡_};
 ghost use lib.ListN.{length};
 ghost use Rattle.bits.specs.Bits.{Bits};
 ghost use Rattle.coder.specs.Blocks.{sacchMessage};
-ghost use Rattle.burst.specs.Places.{gathered};
+ghost use Rattle.places.specs.Places.{gathered};
 ghost use Rattle.parity.specs.Division.{controlG};
 ghost use Rattle.answers.specs.Answers.{Meets};
 ghost use Rattle.coder.specs.Received.{blockHeard, hands};
@@ -17,7 +17,7 @@ pub(crate) fn code(d: &[u8], e: &mut [u8])
 {
     let mut c = [0u8; 456];
     crate::block::code(parity::CONTROL, 40, 0, d, &mut c);
-    burst::fill_four(&c, &c, 0b11111111, e);
+    places::fill_four(&c, &c, 0b11111111, e);
 }
 
 // The control block out of its four bursts; the flags are not used.
@@ -26,6 +26,6 @@ pub(crate) fn receive(e: &[u8], d: &mut [u8]) -> Heard
     ensures { λ r. ⌜ Meets (hands (blockHeard controlG 0 184 (gathered (now (e .entry)))) (now (d .entry))) r (now (d .exit)) ⌝ }
 {
     let mut c = [0u8; 456];
-    burst::gather_four(e, &mut c);
+    places::gather_four(e, &mut c);
     crate::block::receive(CONTROL, 0, &c, d)
 }

@@ -9,7 +9,7 @@ use lib.ListN.{length, getD, take, drop}
 use Rattle.answers.specs.Answers.{Answer, Meets, returned, ofTold}
 use Rattle.bits.specs.Bits.{Bits, pick, tab, value}
 use Rattle.burst.specs.Numbers.{firstBurst}
-use Rattle.burst.specs.Places.{eAt, placeAt, hl, hu}
+use Rattle.places.specs.Places.{eAt, placeAt, hl, hu}
 use Rattle.trellis.specs.Nearest.{disagreements}
 use Rattle.stream.specs.Answers.{brings, ofTaken}
 use Rattle.stream.specs.Receiving.{vote, byKind, freshReceiver, takeAnswer}

@@ -9,7 +9,7 @@ use Rattle.answers.specs.Answers.{Answer}
 use Rattle.answers.specs.declared.Refusal.the-variants.{Length, NotBits, Full, NothingSent, Ended}
 use Rattle.answers.specs.declared.Told.{Told}
 use Rattle.answers.specs.declared.Told.the-variants.{Done, Refused}
-use Rattle.burst.specs.Places.{four, flagsOf}
+use Rattle.places.specs.Places.{four, flagsOf}
 use Rattle.coder.specs.Blocks.{speechBlock, controlBlock}
 use Rattle.stream.specs.declared.sender.Sender.{Sender}
 use Rattle.stream.specs.declared.sender.Sent.{Sent}

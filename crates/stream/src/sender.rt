@@ -9,7 +9,7 @@ ghost use lib.Dec.{eqb, leb};
 ghost use lib.ListN.{length};
 ghost use Rattle.bits.specs.Bits.{Bits, allBits, both};
 ghost use Rattle.answers.specs.Answers.{Meets};
-ghost use Rattle.burst.specs.Places.{four, flagsOf};
+ghost use Rattle.places.specs.Places.{four, flagsOf};
 ghost use Rattle.stream.specs.Sending.{freshSender, isFacch, isBlock, blockOf, flagOf, sendJudged, endJudged, sendAnswer, endAnswer};
 ghost use Rattle.stream.specs.laws.Sending.{Codable};
 
@@ -100,7 +100,7 @@ fn begin(d: &[u8], last: &[u8], q: u8, block: &mut [u8], e: &mut [u8])
     ensures { λ _. ⌜ (now (block .exit) ≡ blockOf (now (d .entry))) × (now (e .exit) ≡ four (blockOf (now (d .entry))) (now (last .entry)) (flagsOf (flagOf (isFacch (length (now (d .entry))))) q)) ⌝ }
 {
     code(d, block);
-    burst::fill_four(block, last, burst::flags_of(flag(d.len() == 184), q), e);
+    places::fill_four(block, last, places::flags_of(flag(d.len() == 184), q), e);
 }
 
 impl Sender {
@@ -142,7 +142,7 @@ impl Sender {
         if let Told::Done = told {
             let nothing = [0u8; 456];
             let last = self.last;
-            burst::fill_four(&nothing, &last, burst::flags_of(0, flag(self.facch)), e);
+            places::fill_four(&nothing, &last, places::flags_of(0, flag(self.facch)), e);
             self.ended = true;
             return Sent { told, next: self };
         }

@@ -12,12 +12,12 @@ use Rattle.bits.specs.Bits.{tab, tabFrom, total, value}
 use Rattle.bits.specs.laws.Tab.{at-tab, length-tab, tab-same, tab-more, bits-tab}
 use Rattle.bits.specs.laws.Value.{value-lt, value-snoc}
 use Rattle.burst.specs.Numbers.{firstBurst}
-use Rattle.burst.specs.Places.{eAt}
+use Rattle.places.specs.Places.{eAt}
 use Rattle.burst.specs.Ring.{heldBit, inOrder}
 use Rattle.burst.specs.Held.{heldBlockAt, heldBlock, heldFlagAt, heldFlags}
-use Rattle.burst.specs.laws.Places.{every-bit}
+use Rattle.places.specs.laws.Places.{every-bit}
 use Rattle.burst.specs.laws.Ring.{in-order-at}
-use Rattle.burst.specs.laws.Table.{placedIn}
+use Rattle.places.specs.laws.Table.{placedIn}
 
 -- ---- the coded bits of block n, of the bursts w in order and what is gathered of them
 module _ (held : List ℕ) (n : ℕ) (lh : length held ≡ 928) where

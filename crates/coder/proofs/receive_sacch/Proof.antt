@@ -1,6 +1,6 @@
 -- `coder::receive_sacch` is right: where every test holds, the message's control block is read and judged; else the buffer stands as before.
 use borrow.Author.Needs.{needs}
-use Rattle.burst.specs.Places.{gathered}
+use Rattle.places.specs.Places.{gathered}
 use Rattle.parity.specs.Division.{controlG}
 use Rattle.coder.specs.Received.{blockHeard, sacchReceived}
 use Rattle.coder.specs.laws.Entries.{done-given}

@@ -17,7 +17,7 @@ use Rattle.parity.specs.Division.{remainder}
 use Rattle.parity.specs.laws.Division.{remainder-after}
 use Rattle.bits.specs.laws.Parts.{length-lent}
 use Rattle.bits.specs.laws.Tab.{bits-tab, length-tab}
-use Rattle.burst.specs.Places.{eAt, gatheredAt, gathered}
+use Rattle.places.specs.Places.{eAt, gatheredAt, gathered}
 use Rattle.parity.specs.Asked.{Generates}
 use Rattle.trellis.specs.Nearest.{Candidate, nearest, nearestCount}
 use Rattle.trellis.specs.laws.Nearest.{nearest-is}

@@ -9,7 +9,7 @@ use Rattle.bits.specs.Bits.{Bits, add, digits, zeros}
 use Rattle.bits.specs.laws.Sum.{add-nothing}
 use Rattle.bits.specs.laws.Tab.{is-tab}
 use Rattle.bits.specs.laws.Value.{length-digits, bits-digits, digits-none}
-use Rattle.burst.specs.Places.{gatheredAt, gathered}
+use Rattle.places.specs.Places.{gatheredAt, gathered}
 use Rattle.parity.specs.Division.{parity, controlG, accessG, schG}
 use Rattle.parity.specs.laws.Division.{length-parity, bits-parity}
 use Rattle.trellis.specs.Nearest.{disagreements, longest}

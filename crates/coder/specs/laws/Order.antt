@@ -8,9 +8,9 @@ use lib.ListN.{getD}
 use borrow.Author.Tests.{lt-ltb, le-ltb}
 use Rattle.bits.specs.laws.Cases.{lt-or-le}
 use Rattle.bits.specs.laws.Tab.{at-tab}
-use Rattle.burst.specs.Places.{eAt}
-use Rattle.burst.specs.laws.Four.{cell-bit, cell-hl, cell-hu, four-at, flag-sacch}
-use Rattle.burst.specs.laws.Places.{every-bit}
+use Rattle.places.specs.Places.{eAt}
+use Rattle.places.specs.laws.Four.{cell-bit, cell-hl, cell-hu, four-at, flag-sacch}
+use Rattle.places.specs.laws.Places.{every-bit}
 use Rattle.coder.specs.Blocks.{speechP, speechUAt, speechU, controlBlock, sacchMessage}
 
 -- ---- 000, 3.1.2.1 b)

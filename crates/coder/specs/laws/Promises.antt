@@ -8,7 +8,7 @@ use lib.Dec.{lit≤}
 use lib.ListN.{length, take, drop}
 use Rattle.bits.specs.Bits.{Bits, digits, value}
 use Rattle.bits.specs.laws.Value.{length-digits, bits-digits, value-digits}
-use Rattle.burst.specs.Places.{gathered}
+use Rattle.places.specs.Places.{gathered}
 use Rattle.parity.specs.Division.{controlG, accessG, schG}
 use Rattle.trellis.specs.Nearest.{disagreements, longest}
 use Rattle.trellis.specs.Pairs.{coded}

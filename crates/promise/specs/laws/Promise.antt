@@ -15,9 +15,9 @@ use Rattle.bits.specs.laws.Cases.{lt-or-le}
 use Rattle.bits.specs.laws.Tab.{at-tab, length-tab, is-tab, tab-same, bits-tab}
 use Rattle.bits.specs.laws.Total.{total-same, total-add}
 use Rattle.burst.specs.Numbers.{firstBurst}
-use Rattle.burst.specs.Places.{eAt, hl, hu}
+use Rattle.places.specs.Places.{eAt, hl, hu}
 use Rattle.burst.specs.laws.Held.{ones-of-flags}
-use Rattle.burst.specs.laws.Places.{every-bit}
+use Rattle.places.specs.laws.Places.{every-bit}
 use Rattle.coder.specs.Blocks.{speechBlock, controlBlock}
 use Rattle.coder.specs.Received.{Hearing}
 use Rattle.coder.specs.laws.Blocks.{control-size, speech-size}

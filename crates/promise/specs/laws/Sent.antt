@@ -14,9 +14,9 @@ use Rattle.bits.specs.laws.Sum.{at-zeros}
 use Rattle.bits.specs.laws.Tab.{at-left, at-right}
 use Rattle.answers.specs.Answers.{Answer, ofTold}
 use Rattle.answers.specs.declared.Told.the-variants.{Done}
-use Rattle.burst.specs.Places.{eAt, placeAt, bitAt, hl, hu, cell, four, flagIn, flagsOf}
-use Rattle.burst.specs.laws.Four.{cell-bit, cell-hl, cell-hu, length-four, four-at, flag-hl, flag-hu}
-use Rattle.burst.specs.laws.Places.{every-bit}
+use Rattle.places.specs.Places.{eAt, placeAt, bitAt, hl, hu, cell, four, flagIn, flagsOf}
+use Rattle.places.specs.laws.Four.{cell-bit, cell-hl, cell-hu, length-four, four-at, flag-hl, flag-hu}
+use Rattle.places.specs.laws.Places.{every-bit}
 use Rattle.stream.specs.Sending.{isFacch, blockOf, flagOf, freshSender, sentBursts, sentNext, sendAnswer, endBursts, endNext, endAnswer}
 use Rattle.stream.specs.declared.sender.Sender.{Sender}
 use Rattle.stream.specs.declared.sender.Sent.{Sent}

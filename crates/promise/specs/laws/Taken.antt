@@ -16,10 +16,10 @@ use Rattle.bits.specs.laws.Sum.{bits-take, length-zeros}
 use Rattle.bits.specs.laws.Tab.{tab-same}
 use Rattle.burst.specs.Held.{heldBlockAt, heldBlock, heldFlagAt, heldFlags}
 use Rattle.burst.specs.Numbers.{firstBurst}
-use Rattle.burst.specs.Places.{eAt, hl, hu}
+use Rattle.places.specs.Places.{eAt, hl, hu}
 use Rattle.burst.specs.Ring.{heldBit, kept}
 use Rattle.burst.specs.laws.Numbers.{ended-block, ended-none}
-use Rattle.burst.specs.laws.Places.{every-bit}
+use Rattle.places.specs.laws.Places.{every-bit}
 use Rattle.burst.specs.laws.Ring.{kept-long, kept-same, kept-other}
 use Rattle.burst.specs.declared.numbers.Ending.{Ending}
 use Rattle.stream.specs.Receiving.{vote, byKind, blockAnswer, atEnding, burstAnswer, freshReceiver, takenNext, takeAnswer}

@@ -4,7 +4,7 @@ use mathlib.Core.Path.{_≡_, ap, _∙_}
 use Prim.Native.Nat.{ℕ}
 use native.Mathlib.Omega.{arith}
 use borrow.Author.Needs.{needs}
-use Rattle.burst.specs.Places.{four}
+use Rattle.places.specs.Places.{four}
 use Rattle.coder.specs.Blocks.{controlBlock, sacchMessage}
 use Rattle.coder.specs.laws.Blocks.{control-is}
 use Rattle.coder.specs.laws.Format.{control-fits}

@@ -2,7 +2,7 @@
 use mathlib.Core.List.{List}
 use mathlib.Core.Path.{ap, ap₂, _∙_}
 use Prim.Native.Nat.{ℕ}
-use Rattle.burst.specs.Places.{four, flagsOf}
+use Rattle.places.specs.Places.{four, flagsOf}
 use borrow.Author.Needs.{needs}
 use Rattle.stream.proofs.sender.begin.Statement.{statement}
 use Rattle.stream.proofs.sender.begin.Tie as tie

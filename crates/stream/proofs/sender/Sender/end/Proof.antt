@@ -3,7 +3,7 @@ use mathlib.Core.Path.{_≡_, refl, ap, _∙_}
 use Prim.Native.Nat.{ℕ}
 use lib.ListN.{length}
 use Rattle.bits.specs.Bits.{zeros}
-use Rattle.burst.specs.Places.{four, flagsOf}
+use Rattle.places.specs.Places.{four, flagsOf}
 use Rattle.stream.specs.Sending.{endTold, endBursts, endNext, endAnswer}
 use Rattle.stream.specs.laws.Sending.{end-able, done-afterwards, refused-afterwards}
 use borrow.Author.Needs.{needs}

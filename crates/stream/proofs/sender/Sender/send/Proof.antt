@@ -4,7 +4,7 @@ use mathlib.Core.Path.{_≡_, ap, ap₂, _∙_}
 use Prim.Native.Nat.{ℕ, _+_}
 use native.Mathlib.Omega.{arith}
 use lib.ListN.{length}
-use Rattle.burst.specs.Places.{four, flagsOf}
+use Rattle.places.specs.Places.{four, flagsOf}
 use Rattle.stream.specs.Sending.{isFacch, blockOf, flagOf, sendTold, sentBursts, sentNext, sendAnswer}
 use Rattle.stream.specs.laws.Sending.{send-able, done-afterwards, refused-afterwards}
 use Rattle.stream.specs.declared.sender.Sender.{Sender}
