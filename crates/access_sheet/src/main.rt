@@ -22,7 +22,7 @@ fn answer_all(chunk: &mut [u8], line: &mut [u8]) {
         let kept = taken.kept;
         // a last line without its newline counts if it is not empty
         if taken.more || kept > 0 {
-            say(&line[0..kept]);
+            write_answer(&line[0..kept]);
         }
         if !taken.more {
             return;
@@ -33,7 +33,7 @@ fn answer_all(chunk: &mut [u8], line: &mut [u8]) {
 }
 
 // Writes the answer to a line.
-fn say(line: &[u8]) {
+fn write_answer(line: &[u8]) {
     let mut out = [0u8; 40];
     let n = answer(line, &mut out);
     write_line(&mut out, n);

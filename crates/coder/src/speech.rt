@@ -72,7 +72,7 @@ fn fill_d(u: &[u8], d: &mut [u8])
 }
 
 // What the verdict divides: the first 50 bits of d and the three parity bits within u.
-fn lay_check(d: &[u8], u: &[u8], w: &mut [u8])
+fn fill_w(d: &[u8], u: &[u8], w: &mut [u8])
     requires { ⌜ (length (now d) ≡ 182) × (length (now u) ≡ 189) × (length (now w) ≡ 53) ⌝ }
     ensures { λ _. ⌜ now (w .exit) ≡ take 50 (now (d .entry)) ++ take 3 (drop 91 (now (u .entry))) ⌝ }
 {
@@ -86,7 +86,7 @@ fn is_good(d: &[u8], u: &[u8]) -> bool
     ensures { λ r. ⌜ r ≡ allOnes speechG (take 50 (now (d .entry)) ++ take 3 (drop 91 (now (u .entry)))) ⌝ }
 {
     let mut w = [0u8; 53];
-    lay_check(d, u, &mut w);
+    fill_w(d, u, &mut w);
     crate::block::leaves_ones(parity::SPEECH, 3, 0, &w)
 }
 

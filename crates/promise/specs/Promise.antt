@@ -11,7 +11,7 @@ use Rattle.bits.specs.Bits.{Bits, pick, tab, value}
 use Rattle.burst.specs.Numbers.{firstBurst}
 use Rattle.places.specs.Places.{eAt, placeAt, hl, hu}
 use Rattle.trellis.specs.Nearest.{disagreements}
-use Rattle.stream.specs.Answers.{brings, ofTaken}
+use Rattle.stream.specs.Answers.{values, ofTaken}
 use Rattle.stream.specs.Receiving.{vote, byKind, freshReceiver, takeAnswer}
 use Rattle.stream.specs.Sending.{isFacch, isBlock, freshSender, sendAnswer, endAnswer}
 use Rattle.stream.specs.declared.Taken.{Taken}
@@ -86,8 +86,8 @@ unfoldable pub bitsOut : List ℕ → List ℕ → List ℕ → List ℕ
 bitsOut d c out = pick (isFacch (length d)) (d ++ drop 184 out) (take 182 d ++ drop 378 c)
 
 -- a block comes back: no number is given, but the block's kind, its n and its count, and the buffer then holds these bytes
-pub record ComesBack (a : Answer Received) (k : Kind) (n count : ℕ) (bytes : List ℕ) : Type 0 where
-  pub told : ofTaken (a .result .told) ≡ brings none (some k) (some n) (some count)
+pub record Brings (a : Answer Received) (k : Kind) (n count : ℕ) (bytes : List ℕ) : Type 0 where
+  pub told : ofTaken (a .result .told) ≡ values none (some k) (some n) (some count)
   pub left : a .left ≡ bytes
 
 -- ---- THE PROMISE: any lesson is sent and ended, and any bits arrive, as many as were sent. Whatever happened to other blocks: if at most
@@ -98,7 +98,7 @@ StreamPromise =
     → (rx : List ℕ) (out : ℕ → List ℕ) → Arrives (4 * length ds + 4) rx out
     → (n : ℕ) → n < length ds
     → bitsAltered (getD ds n []) (made lent ds) rx n ≤ 3 → flagsAltered (made lent ds) rx n ≤ 3
-    → ComesBack (takenAt rx out (4 * n + 7)) (kindOf (getD ds n [])) n (bitsAltered (getD ds n []) (made lent ds) rx n)
+    → Brings (takenAt rx out (4 * n + 7)) (kindOf (getD ds n [])) n (bitsAltered (getD ds n []) (made lent ds) rx n)
     (bitsOut (getD ds n []) (blockBits rx n) (out (4 * n + 7)))
 
 -- every send and the end give no number, and N blocks make 4N+4 bursts

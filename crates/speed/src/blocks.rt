@@ -22,7 +22,7 @@ fn turn(d: &mut [u8], i: usize)
     d[i] = 1 - d[i] % 2;
 }
 
-fn of_told(told: Told) -> u32 {
+pub fn of_told(told: Told) -> u32 {
     match told {
         Told::Done => 0,
         Told::Refused(why) => answers::number(why) as u32,

@@ -1,21 +1,14 @@
 // The streams: a sender that sends a block so many times, and a receiver that takes the bursts of a block.
 use crate::blocks::fill;
+use crate::blocks::of_told;
 use crate::blocks::seen;
 use answers::Refusal;
-use answers::Told;
 use burst::BurstNumber;
 use stream::Taken;
 use stream::receiver::Receiver;
 use stream::sender::Sender;
 ghost use mathlib.Core.Path.{_≡_};
 ghost use lib.ListN.{length};
-
-fn of_told(told: Told) -> u32 {
-    match told {
-        Told::Done => 0,
-        Told::Refused(why) => answers::number(why) as u32,
-    }
-}
 
 // Two numbers, since a good block is told by its kind and count, and a wait by 0.
 fn of_taken(told: Taken) -> u32 {

@@ -9,20 +9,20 @@ use Rattle.stream.specs.declared.receiver.Kind.{Kind}
 use Rattle.stream.specs.declared.receiver.Kind.the-variants as kind
 
 -- the number that is given, if one is; the kind, the block's number n and the count, where 01 says that they are returned
-pub record Brings : Type 0 where
+pub record Values : Type 0 where
   pub number : Option ℕ
   pub kind : Option Kind
   pub block : Option ℕ
   pub count : Option ℕ
 
-abbrev pub brings : Option ℕ → Option Kind → Option ℕ → Option ℕ → Brings
-brings number kind block count = record { number = number; kind = kind; block = block; count = count }
+abbrev pub values : Option ℕ → Option Kind → Option ℕ → Option ℕ → Values
+values number kind block count = record { number = number; kind = kind; block = block; count = count }
 
 -- 01, Numbers given for a no, and Bursts and streams: a row for each case
-abbrev pub ofTaken : Taken → Brings
-ofTaken Waiting = brings none none none none
-ofTaken (Speech n k) = brings none (some kind.Speech) (some (n .0)) (some k)
-ofTaken (Facch n k) = brings none (some kind.Facch) (some (n .0)) (some k)
-ofTaken (Refused r) = brings (some (numberOf r)) none none none
-ofTaken (Bad n k) = brings (some (numberOf Parity)) none (some (n .0)) (some k)
-ofTaken (Tie n) = brings (some (numberOf Flags)) none (some (n .0)) none
+abbrev pub ofTaken : Taken → Values
+ofTaken Waiting = values none none none none
+ofTaken (Speech n k) = values none (some kind.Speech) (some (n .0)) (some k)
+ofTaken (Facch n k) = values none (some kind.Facch) (some (n .0)) (some k)
+ofTaken (Refused r) = values (some (numberOf r)) none none none
+ofTaken (Bad n k) = values (some (numberOf Parity)) none (some (n .0)) (some k)
+ofTaken (Tie n) = values (some (numberOf Flags)) none (some (n .0)) none

@@ -4,7 +4,7 @@ use Prim.Native.Nat.{_+_, _-_, _*_, _≤_, _<_}
 use native.Mathlib.Omega.{arith}
 use lib.ListN.{length-set}
 use Rattle.bits.specs.laws.Tab.{Filled, filled-none, filled-pair, filled-all}
-use Rattle.places.specs.laws.Table.{entry, bit-in, laid, laid-even, laid-odd}
+use Rattle.places.specs.laws.Table.{inRow, bit-in, laid, laid-even, laid-odd}
 use borrow.Author.Needs.{needs}
 use Rattle.places.proofs.tables.bit_rows.Reads as bit-rows-reads
 use Rattle.places.proofs.fill_bits.Statement.{statement}
@@ -28,8 +28,8 @@ loop-holds c =
 abbrev Turn : Type 0
 Turn = lts.In-loop (bit-rows-reads.Asked, bit-rows-reads.Learnt) reads.Pre reads.Post Inv-loop μ-loop
 
-in-blocks : (c : Turn) → (entry (c .before .before .bit-rows .result) (c .before .loop .x) 0 + 57 * c .before .before .before .before .before .before .args .i < 912)
-    × (entry (c .before .before .bit-rows .result) (c .before .loop .x) 1 + 57 * c .before .before .before .before .before .before .args .i < 912)
+in-blocks : (c : Turn) → (inRow (c .before .before .bit-rows .result) (c .before .loop .x) 0 + 57 * c .before .before .before .before .before .before .args .i < 912)
+    × (inRow (c .before .before .bit-rows .result) (c .before .loop .x) 1 + 57 * c .before .before .before .before .before .before .args .i < 912)
 in-blocks c =
     let start = c .before .before .before .before .before .before in
     let rows = c .before .before .bit-rows in

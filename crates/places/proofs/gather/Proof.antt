@@ -5,7 +5,7 @@ use Prim.Native.Nat.{ℕ, _+_, _-_, _*_, _≤_}
 use native.Mathlib.Omega.{arith}
 use lib.ListN.{getD, set}
 use Rattle.bits.specs.laws.Tab.{Filled, filled-none, filled-more, filled-all}
-use Rattle.places.specs.laws.Table.{entry, place-in, placedIn, placed}
+use Rattle.places.specs.laws.Table.{inRow, place-in, placedIn, placed}
 use borrow.Author.Needs.{needs}
 use Rattle.places.proofs.gather.Statement.{statement}
 use Rattle.places.proofs.gather.Tie as tie
@@ -61,7 +61,7 @@ loop2-again c =
     let l = turn .before .loop2 in
     let hr = outer .loop-test .taken in
     let hx = turn .loop2-test .taken in
-    let v : ℕ = getD w (entry (rows .result) row (l .x)) 0 in (
+    let v : ℕ = getD w (inRow (rows .result) row (l .x)) 0 in (
       omega (arith, hx),
       same (placedIn w) (8 * row + l .x + 1) (8 * row + (l .x + 1)) (set (l .c) (8 * row + l .x) v) (omega arith)
           (filled-more (placedIn w) 456 (8 * row + l .x) v (l .c) (l .inv .1) (omega (arith, hr, hx)) (placed (rows .result) (rows .ensures) row (l .x) hr hx w)),

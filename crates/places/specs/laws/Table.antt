@@ -78,28 +78,28 @@ places =
     (14 ∷ 230 ∷ 330 ∷ 430 ∷ 531 ∷ 629 ∷ 729 ∷ 829 ∷ []) ∷ []
 
 -- what a table has at x of a row
-abbrev pub entry : List (List ℕ) → ℕ → ℕ → ℕ
-entry table row x = getD (getD table row []) x 0
+abbrev pub inRow : List (List ℕ) → ℕ → ℕ → ℕ
+inRow table row x = getD (getD table row []) x 0
 
 agrees : ℕ → ℕ → Bool
-agrees row x = eqb (entry places row x) (116 * x + eAt (8 * row + x))
+agrees row x = eqb (inRow places row x) (116 * x + eAt (8 * row + x))
 
-place-right : (row x : ℕ) → row < 57 → x < 8 → entry places row x ≡ 116 * x + eAt (8 * row + x)
+place-right : (row x : ℕ) → row < 57 → x < 8 → inRow places row x ≡ 116 * x + eAt (8 * row + x)
 unfolding agrees places placeOf eOf eAt
-place-right row x hr hx = eqb→eq (entry places row x) (116 * x + eAt (8 * row + x)) (below (agrees row) 8 (below (λ r. allBelow (agrees r) 8) 57 tt row hr) x hx)
+place-right row x hr hx = eqb→eq (inRow places row x) (116 * x + eAt (8 * row + x)) (below (agrees row) 8 (below (λ r. allBelow (agrees r) 8) 57 tt row hr) x hx)
 
 -- what stands at the place of bit k in eight bursts
 unfoldable pub placedIn : List ℕ → ℕ → ℕ
 placedIn bursts k = getD bursts (116 * (k % 8) + eAt k) 0
 
 module _ (t : List (List ℕ)) (et : t ≡ places) (row x : ℕ) (hr : row < 57) (hx : x < 8) where
-  is : entry t row x ≡ 116 * x + eAt (8 * row + x)
+  is : inRow t row x ≡ 116 * x + eAt (8 * row + x)
   is = rw et (place-right row x hr hx)
 
-  pub place-in : entry t row x < 928
+  pub place-in : inRow t row x < 928
   place-in = omega (arith, is, every-bit (8 * row + x) (omega arith) .within)
 
-  pub placed : (bursts : List ℕ) → getD bursts (entry t row x) 0 ≡ placedIn bursts (8 * row + x)
+  pub placed : (bursts : List ℕ) → getD bursts (inRow t row x) 0 ≡ placedIn bursts (8 * row + x)
   unfolding placedIn
   placed bursts =
       let e : (8 * row + x) % 8 ≡ x = omega arith in
@@ -193,7 +193,7 @@ bitTable =
     (392 ∷ 164 ∷ []) ∷ []
 
 abbrev bitIn : ℕ → ℕ
-bitIn x = entry bitTable (x / 2) (x % 2)
+bitIn x = inRow bitTable (x / 2) (x % 2)
 
 bit-agrees : ℕ → Bool
 bit-agrees x = both (eqb (bitIn x) (bitAt 0 (placeAt x))) (eqb (x % 2) (placeAt x % 2))
@@ -233,26 +233,26 @@ laid i a b x = pick (eqb (x % 2) 0) (getD a (bitIn x + 57 * i) 0) (getD b (bitIn
 
 -- of the two bits of a row the first is at the even place and the second at the odd one
 module _ (t : List (List ℕ)) (et : t ≡ bitTable) (i k : ℕ) where
-  even : bitIn (2 * k) ≡ entry t k 0
+  even : bitIn (2 * k) ≡ inRow t k 0
   even =
       let q : 2 * k / 2 ≡ k = omega arith in
       let r : 2 * k % 2 ≡ 0 = omega arith in
       rw (q, r, et)
 
-  odd : bitIn (2 * k + 1) ≡ entry t k 1
+  odd : bitIn (2 * k + 1) ≡ inRow t k 1
   odd =
       let q : (2 * k + 1) / 2 ≡ k = omega arith in
       let r : (2 * k + 1) % 2 ≡ 1 = omega arith in
       rw (q, r, et)
 
-  pub bit-in : i < 4 → k < 58 → (entry t k 0 + 57 * i < 912) × (entry t k 1 + 57 * i < 912)
+  pub bit-in : i < 4 → k < 58 → (inRow t k 0 + 57 * i < 912) × (inRow t k 1 + 57 * i < 912)
   bit-in hi hk = (omega (arith, even, in-block (2 * k) (omega arith)), omega (arith, odd, in-block (2 * k + 1) (omega arith)))
 
-  pub laid-even : (a b : List ℕ) → getD a (entry t k 0 + 57 * i) 0 ≡ laid i a b (2 * k)
+  pub laid-even : (a b : List ℕ) → getD a (inRow t k 0 + 57 * i) 0 ≡ laid i a b (2 * k)
   unfolding laid
   laid-even a b = let r : 2 * k % 2 ≡ 0 = omega arith in rw (eq-eqb (2 * k % 2) 0 r, even)
 
-  pub laid-odd : (a b : List ℕ) → getD b (entry t k 1 + 57 * i) 0 ≡ laid i a b (2 * k + 1)
+  pub laid-odd : (a b : List ℕ) → getD b (inRow t k 1 + 57 * i) 0 ≡ laid i a b (2 * k + 1)
   unfolding laid
   laid-odd a b = rw (ne-eqb ((2 * k + 1) % 2) 0 (λ (z : (2 * k + 1) % 2 ≡ 0). omega arith), odd)
 

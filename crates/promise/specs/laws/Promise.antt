@@ -31,7 +31,7 @@ use Rattle.stream.specs.declared.Taken.the-variants.{Speech, Facch}
 use Rattle.stream.specs.declared.receiver.Kind.{Kind}
 use Rattle.stream.specs.declared.receiver.Kind.the-variants as kind
 use Rattle.stream.specs.declared.receiver.Received.{Received}
-use Rattle.promise.specs.Promise.{Valid, Lesson, made, blockBits, blockFlags, protected, bitsAltered, flagsAltered, kindOf, bitsOut, takenAt, ComesBack, Answers, answerFor, StreamPromise, BurstsMade, IdleHalves, Locality, NeverAThird}
+use Rattle.promise.specs.Promise.{Valid, Lesson, made, blockBits, blockFlags, protected, bitsAltered, flagsAltered, kindOf, bitsOut, takenAt, Brings, Answers, answerFor, StreamPromise, BurstsMade, IdleHalves, Locality, NeverAThird}
 use Rattle.promise.specs.laws.Sent.{fresh-able, sent-bit, sent-flag, all-done, first-idle, last-idle}
 use Rattle.promise.specs.laws.Taken.{flag-in, brings-block, brings-nothing}
 
@@ -122,11 +122,11 @@ comesOut d n count c out = pick (isFacch (length d)) (facchBack d n count out) (
 
 module _ (d : List ℕ) (n k : ℕ) (c out : List ℕ) (a : Answer Received) where
   by-kind : (b : Bool) → Meets (pick b (facchBack d n k out) (speechBack d n k c)) (a .result .told) (a .left)
-      → ComesBack a (pick b kind.Facch kind.Speech) n k (pick b (d ++ drop 184 out) (take 182 d ++ drop 378 c))
+      → Brings a (pick b kind.Facch kind.Speech) n k (pick b (d ++ drop 184 out) (take 182 d ++ drop 378 c))
   by-kind true m = record { told = ap ofTaken (m .result); left = m .left }
   by-kind false m = record { told = ap ofTaken (m .result); left = m .left }
 
-  comes-back : Meets (comesOut d n k c out) (a .result .told) (a .left) → ComesBack a (kindOf d) n k (bitsOut d c out)
+  comes-back : Meets (comesOut d n k c out) (a .result .told) (a .left) → Brings a (kindOf d) n k (bitsOut d c out)
   unfolding comesOut kindOf bitsOut
   comes-back m = by-kind (isFacch (length d)) m
 

@@ -8,14 +8,14 @@ leaves-ones-requires : tie.Need-leaves-ones-requires
 leaves-ones-requires c κs =
     let start = c .before .before .before .before .before .before in
     let s = start .args in
-    let w = c .before .before .lay-check in
+    let w = c .before .before .fill-w in
     check-divisible (s .d .now) (s .u .now) (w .last .1 .1 .0) (start .pre .0) (start .pre .1) (start .pre .2) (start .pre .3) (w .ensures)
 
 returns : tie.Need-returns
 returns c =
     let start = c .before .before .before .before .before .before .before in
     let s = start .args in
-    let w = c .before .before .before .lay-check in
+    let w = c .before .before .before .fill-w in
     check-is (s .d .now) (s .u .now) (w .last .1 .1 .0) (start .pre .0) (start .pre .1) (start .pre .2) (start .pre .3) (w .ensures) (c .leaves-ones .result) (c .leaves-ones .ensures)
 
 pub is-good-spec : {M : Type 1} → statement M
