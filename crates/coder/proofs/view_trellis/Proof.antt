@@ -1,4 +1,5 @@
 -- `coder::view_trellis` is right: each refusal is the case of `judged` to which the tests on the way lead, and else the row is seen.
+use native.Mathlib.Omega.{arith}
 use borrow.Author.Needs.{needs}
 use borrow.Author.Tests.{eq-eqb, ne-eqb, le-leb, lt-leb, not-true, not-false}
 use Rattle.coder.specs.Entries.{judged}
@@ -36,8 +37,9 @@ returns-3 c =
 view-requires : tie.Need-view-requires
 view-requires c κs =
     let s = c .before .before .before .before .before .args in
-    let b = c .before .are-bits in (
-      c .before .before .if2 .left,
+    let b = c .before .are-bits in
+    let short = c .before .before .if2 .left in (
+      omega (arith, short),
       c .before .before .before .if1 .left,
       all-bits (s .r .now) (sym (b .ensures) ∙ not-false (b .result) (c .if3 .left)),
     )
