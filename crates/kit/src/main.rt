@@ -1,15 +1,19 @@
 // The kit by hand: each line of the input is a word and its arguments, and is answered by one line.
-mod answers;
+mod answer;
+mod blocks;
 mod fields;
+mod print;
+mod reply;
 mod streams;
 mod verbs;
 
+use print::put_answer;
+use reply::reply;
 use streams::Streams;
 use streams::fresh_streams;
 use text::Span;
 use text::take_line;
 use text::write_line;
-use verbs::reply;
 
 fn main() {
     let mut chunk = [0u8; 4096];
@@ -41,8 +45,12 @@ fn answer_all(chunk: &mut [u8], line: &mut [u8]) {
 
 // Writes the answer to a line; what comes back is the streams after it.
 fn say(streams: Streams, line: &[u8]) -> Streams {
+    // as long as the longest that is written for a verb
+    let mut written = [0u8; 464];
+    let said = reply(streams, line, &mut written);
+    let answer = said.answer;
     let mut out = [0u8; 1001];
-    let said = reply(streams, line, &mut out);
-    write_line(&mut out, said.n);
+    let n = put_answer(&mut out, answer, &written);
+    write_line(&mut out, n);
     said.streams
 }
