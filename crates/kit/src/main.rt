@@ -32,7 +32,7 @@ fn answer_all(chunk: &mut [u8], line: &mut [u8]) {
         let kept = taken.kept;
         // a last line without its newline counts if it is not empty
         if taken.more || kept > 0 {
-            let next = say(streams, &line[0..kept]);
+            let next = write_answer(streams, &line[0..kept]);
             streams = next;
         }
         if !taken.more {
@@ -44,7 +44,7 @@ fn answer_all(chunk: &mut [u8], line: &mut [u8]) {
 }
 
 // Writes the answer to a line; what comes back is the streams after it.
-fn say(streams: Streams, line: &[u8]) -> Streams {
+fn write_answer(streams: Streams, line: &[u8]) -> Streams {
     // as long as the longest that is written for a verb
     let mut written = [0u8; 464];
     let said = reply(streams, line, &mut written);
