@@ -10,8 +10,9 @@ pub fn convolve(u: &[u8]) -> Vec<u8> {
     let before = |k: usize, steps: usize| if k < steps { 0 } else { u[k - steps] };
     let mut c = vec![0; 2 * u.len()];
     for k in 0..u.len() {
-        c[2 * k] = (u[k] + before(k, 3) + before(k, 4)) % 2;
-        c[2 * k + 1] = (u[k] + before(k, 1) + before(k, 3) + before(k, 4)) % 2;
+        let sum = u[k] + before(k, 3) + before(k, 4);
+        c[2 * k] = sum % 2;
+        c[2 * k + 1] = (sum + before(k, 1)) % 2;
     }
     c
 }
@@ -54,11 +55,9 @@ fn speech_block(d: &[u8], p: &[u8]) -> Vec<u8> {
 
 /// Speech, 3.1.2: class 1 is convolved; class 2 is c(378+k) = d(182+k) for k = 0..77
 pub fn speech(channel: &Channel, identity: u16, d: &[u8]) -> Vec<u8> {
+    let d = &d[..260];
     let mut c = convolve(&speech_block(d, &colour(channel, identity, d)));
-    c.resize(456, 0);
-    for k in 0..=77 {
-        c[378 + k] = d[182 + k];
-    }
+    c.extend(&d[182..]);
     c
 }
 
