@@ -51,13 +51,13 @@ verdict h = pick (h .good) (heard.Good (h .count)) (heard.Bad (h .count))
 unfoldable pub hands : Hearing → List ℕ → Answer Heard
 hands h d = hears (verdict h) (h .bits) d
 
-unfoldable pub hearing : Told → Hearing → Heard
-hearing told.Done h = verdict h
-hearing (told.Refused r) h = heard.Refused r
+unfoldable pub judgedHearing : Told → Hearing → Heard
+judgedHearing told.Done h = verdict h
+judgedHearing (told.Refused r) h = heard.Refused r
 
 -- an entry that reads n bits c, and an identity, and hands over m bits into a buffer that held d
 unfoldable pub reception : ℕ → ℕ → ℕ → List ℕ → Hearing → List ℕ → Answer Heard
-reception n m identity c h d = hears (hearing (judged (lengths c n d m) (allBits c) (leb identity 63)) h) (h .bits) d
+reception n m identity c h d = hears (judgedHearing (judged (lengths c n d m) (allBits c) (leb identity 63)) h) (h .bits) d
 
 -- speech block: 456 to 260
 unfoldable pub speechReceived : List ℕ → List ℕ → Answer Heard

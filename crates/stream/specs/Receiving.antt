@@ -5,7 +5,7 @@ use Prim.Native.Nat.{ℕ, _+_}
 use lib.Dec.{eqb, leb, ltb}
 use lib.ListN.{length, drop}
 use Rattle.bits.specs.Bits.{pick, both, allBits, zeros}
-use lib.Count.{ones}
+use lib.Count as count
 use Rattle.answers.specs.Answers.{Answer}
 use Rattle.answers.specs.declared.Refusal.the-variants.{Length, NotBits, Full, OutOfTurn}
 use Rattle.answers.specs.declared.Told.{Told}
@@ -41,7 +41,7 @@ takeTold s b e d = takeJudged (both (eqb (length e) 116) (eqb (length d) 260)) (
 
 -- 01: the eight flags are counted as one number's ones; 0 to 3 mean speech, 5 to 8 FACCH
 unfoldable pub vote : ℕ → Kind
-vote flags = pick (ltb (ones flags) 4) kind.Speech (pick (ltb 4 (ones flags)) kind.Facch kind.Neither)
+vote flags = pick (ltb (count.ones flags) 4) kind.Speech (pick (ltb 4 (count.ones flags)) kind.Facch kind.Neither)
 
 -- good: the bits are written; bad: the buffer stands as before
 unfoldable pub goodOrBad : Bool → Taken → List ℕ → Taken → List ℕ → Answer Taken

@@ -28,7 +28,7 @@ use Rattle.answers.specs.declared.Refusal.{Refusal}
 use Rattle.answers.specs.declared.Told.{Told}
 use Rattle.answers.specs.declared.Told.the-variants as told
 use Rattle.coder.specs.Entries.{judged, lengths, Given}
-use Rattle.coder.specs.Received.{Hearing, allOnes, blockHeard, verdict, hands, hearing, reception}
+use Rattle.coder.specs.Received.{Hearing, allOnes, blockHeard, verdict, hands, judgedHearing, reception}
 use Rattle.coder.specs.declared.block.Format.{Format}
 use Rattle.coder.specs.laws.Entries.{done}
 use Rattle.coder.specs.laws.Format.{Fits, size, generatorOf}
@@ -136,25 +136,25 @@ module _ (f : Format) (colour : ℕ) (c d rest v : List ℕ) (fits : Fits f) (gi
 -- ---- the two ways in which a receiving entry ends
 module _ (n m i : ℕ) (c d : List ℕ) (h : Hearing) (j : Told) (e : j ≡ judged (lengths c n d m) (allBits c) (leb i 63)) where
   pub reception-done : (r : Heard) (after : List ℕ) → j ≡ told.Done → Meets (hands h d) r after → Meets (reception n m i c h d) r after
-  unfolding reception hearing hands hears
+  unfolding reception judgedHearing hands hears
   reception-done r after f o =
-      let t : verdict h ≡ hearing (judged (lengths c n d m) (allBits c) (leb i 63)) h = ap (λ (x : Told). hearing x h) (sym f ∙ e) in
+      let t : verdict h ≡ judgedHearing (judged (lengths c n d m) (allBits c) (leb i 63)) h = ap (λ (x : Told). judgedHearing x h) (sym f ∙ e) in
       record { result = o .result ∙ t; left = o .left ∙ ap (λ (x : Heard). heardOr x (h .bits) d) t }
 
   pub reception-refused : (x : Refusal) → j ≡ told.Refused x → Meets (reception n m i c h d) (Refused x) d
-  unfolding reception hearing hears heardOr
+  unfolding reception judgedHearing hears heardOr
   reception-refused x f =
-      let t : Refused x ≡ hearing (judged (lengths c n d m) (allBits c) (leb i 63)) h = ap (λ (y : Told). hearing y h) (sym f ∙ e) in
+      let t : Refused x ≡ judgedHearing (judged (lengths c n d m) (allBits c) (leb i 63)) h = ap (λ (y : Told). judgedHearing y h) (sym f ∙ e) in
       record { result = t; left = ap (λ (y : Heard). heardOr y (h .bits) d) t }
 
 -- ---- an entry that is given what it should be hears the block
 module _ (n m i : ℕ) (c d : List ℕ) (l : i ≤ 63) (g : Given n m c d) (h : Hearing) (k : ℕ) (ek : h .count ≡ k) where
   pub hears-good : (bits : List ℕ) → h .good ≡ true → h .bits ≡ bits → reception n m i c h d ≡ record { result = Good k; left = bits }
-  unfolding reception hearing verdict hears heardOr
+  unfolding reception judgedHearing verdict hears heardOr
   hears-good bits eg eb = rw (done n m i c d l g, eg, ek, eb) refl
 
   pub hears-bad : h .good ≡ false → reception n m i c h d ≡ record { result = Bad k; left = d }
-  unfolding reception hearing verdict hears heardOr
+  unfolding reception judgedHearing verdict hears heardOr
   hears-bad eg = rw (done n m i c d l g, eg, ek) refl
 
 -- a generator by its number and by its name

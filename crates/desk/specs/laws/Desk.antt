@@ -20,7 +20,7 @@ use Rattle.answers.specs.declared.Told.the-variants.{Done}
 use Rattle.answers.specs.declared.Told.the-variants as told
 use Rattle.answers.specs.laws.Answers.{Settled, meets-once}
 use Rattle.coder.specs.Entries.{judged, lengths, accessSent, controlSent}
-use Rattle.coder.specs.Received.{accessReceived, controlReceived, Hearing, blockHeard, verdict, hearing, reception}
+use Rattle.coder.specs.Received.{accessReceived, controlReceived, Hearing, blockHeard, verdict, judgedHearing, reception}
 use Rattle.desk.specs.Desk.{orNone, oneNumber, inOneNumber}
 
 module _ (identity : ℕ) (d c : List ℕ) where
@@ -77,8 +77,8 @@ unfolding verdict
 told-fits h l true e = rw e l
 told-fits h l false e = rw e l
 
-hearing-fits : (t : Told) (h : Hearing) → h .count ≤ 65535 → orNone (ofHeard (hearing t h) .count) ≤ 65535
-unfolding hearing
+hearing-fits : (t : Told) (h : Hearing) → h .count ≤ 65535 → orNone (ofHeard (judgedHearing t h) .count) ≤ 65535
+unfolding judgedHearing
 hearing-fits Done h l = told-fits h l (h .good) refl
 hearing-fits (told.Refused r) h l = omega arith
 
