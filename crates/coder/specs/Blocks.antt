@@ -5,7 +5,7 @@ use lib.Dec.{ltb}
 use lib.ListN.{getD, take, drop}
 use Rattle.bits.specs.Bits.{pick, tab, add, zeros, digits}
 use Rattle.parity.specs.Division.{parity, speechG, controlG, accessG, schG}
-use Rattle.trellis.specs.Pairs.{coded}
+use Rattle.convolution.specs.Pairs.{coded}
 use Rattle.places.specs.Places.{four}
 
 -- 000, 3.1.2.1 a): the three parity bits over the first 50 bits

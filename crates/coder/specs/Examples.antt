@@ -6,7 +6,7 @@ use Prim.Native.Nat.{ℕ, suc, _%_}
 use lib.Dec.{eqb}
 use Rattle.bits.specs.Bits.{pick, both, largest, allBits, tab, tabFrom, add, zeros, ones, digits}
 use Rattle.parity.specs.Division.{occurs, product, lower, divide, remainder, parity, speechG, accessG}
-use Rattle.trellis.specs.Pairs.{back, first, second, codedAt, coded, pairOf}
+use Rattle.convolution.specs.Pairs.{back, first, second, codedAt, coded, pairOf}
 use Rattle.register.specs.Register.{from, bit, way, best}
 use Rattle.trellis.specs.Nearest.{differ, pairCost, rowAt, row}
 use Rattle.places.specs.Places.{placeOf, eOf, eAt}

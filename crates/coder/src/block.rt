@@ -12,7 +12,7 @@ ghost use Rattle.bits.specs.Bits.{Bits, digits, value, ones, zeros};
 ghost use Rattle.parity.specs.Asked.{Generates};
 ghost use Rattle.parity.specs.Division.{remainder};
 ghost use Rattle.trellis.specs.Nearest.{nearest, nearestCount, longest};
-ghost use Rattle.trellis.specs.Pairs.{coded};
+ghost use Rattle.convolution.specs.Pairs.{coded};
 ghost use Rattle.coder.specs.Entries.{Given};
 ghost use Rattle.coder.specs.Received.{blockHeard, hands};
 ghost use Rattle.coder.specs.laws.Format.{Fits, size, generatorOf, laidOut};
@@ -78,7 +78,7 @@ pub(crate) fn code(generator: u64, degree: u32, colour: u64, d: &[u8], c: &mut [
     let l = d.len() + degree as usize + 4;
     let mut u = [0u8; LONGEST];
     protect(generator, degree, colour, d, &mut u[0..l]);
-    trellis::code(&u[0..l], c);
+    convolution::code(&u[0..l], c);
 }
 
 // THE nearest block to c, u, in the first places of u, and in how many places its pairs disagree with c.

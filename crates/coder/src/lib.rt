@@ -13,7 +13,7 @@ ghost use lib.ListN.{length};
 ghost use Rattle.answers.specs.Answers.{Meets};
 ghost use Rattle.answers.specs.declared.Told.the-variants.{Refused};
 ghost use Rattle.bits.specs.Bits.{allBits, both};
-ghost use Rattle.trellis.specs.Pairs.{coded};
+ghost use Rattle.convolution.specs.Pairs.{coded};
 ghost use Rattle.coder.specs.Entries.{judged, entry, speechSent, controlSent, sacchSent, accessSent, schSent, unreached, trellisViewed};
 ghost use Rattle.coder.specs.Received.{blockHeard, reception, speechReceived, controlReceived, sacchReceived, accessReceived, schReceived};
 ghost use Rattle.coder.specs.laws.Format.{Fits, generatorOf, laidOut};

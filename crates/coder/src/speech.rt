@@ -54,7 +54,7 @@ pub(crate) fn code(d: &[u8], c: &mut [u8])
     put_parity(d, &mut p);
     let mut u = [0u8; 189];
     fill_u(d, &p, &mut u);
-    trellis::code(&u, &mut c[0..378]);
+    convolution::code(&u, &mut c[0..378]);
     bits::copy(&d[182..260], &mut c[378..456]);
 }
 

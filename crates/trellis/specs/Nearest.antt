@@ -7,7 +7,7 @@ use lib.Dec.{eqb}
 use lib.ListN.{length, getD, drop}
 use Rattle.bits.specs.Bits.{Bits, pick, tab, zeros, total}
 use Rattle.register.specs.Register.{NotAfter, best, walk}
-use Rattle.trellis.specs.Pairs.{coded, pairOf, stateAt}
+use Rattle.convolution.specs.Pairs.{coded, pairOf, stateAt}
 
 -- does the received byte r disagree with the coded bit x?
 unfoldable pub differ : ℕ → ℕ → ℕ

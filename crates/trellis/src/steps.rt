@@ -1,11 +1,11 @@
 // One received pair: the row of sixteen path counts before it and after it, and the sixteen choices.
-use crate::pair;
+use convolution::pair;
 ghost use mathlib.Core.Path.{_≡_};
 ghost use Prim.Native.Nat.{_+_, _/_, _%_, _≤_, _<_, min};
 ghost use Rattle.bits.specs.Bits.{pick, tab, value};
 ghost use lib.Dec.{ltb};
 ghost use Rattle.trellis.specs.Nearest.{differ};
-ghost use Rattle.trellis.specs.Pairs.{pairOf};
+ghost use Rattle.convolution.specs.Pairs.{pairOf};
 ghost use Rattle.trellis.specs.laws.Steps.{costInto, stepAt, chosenAt, turned};
 
 // Does received r disagree with coded bit x?

@@ -1,7 +1,7 @@
 -- `coder::send_access` is right: what it sends of bits is the access burst under its identity.
 use mathlib.Core.Path.{refl}
 use borrow.Author.Needs.{needs}
-use Rattle.trellis.specs.Pairs.{coded}
+use Rattle.convolution.specs.Pairs.{coded}
 use Rattle.coder.specs.Blocks.{accessBurst}
 use Rattle.coder.specs.Entries.{accessSent}
 use Rattle.coder.specs.laws.Blocks.{access-is}

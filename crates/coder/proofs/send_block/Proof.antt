@@ -1,7 +1,7 @@
 -- `coder::send_block` is right: where every test holds, the block is written; else the buffer stands as before.
 use native.Mathlib.Omega.{arith}
 use borrow.Author.Needs.{needs}
-use Rattle.trellis.specs.Pairs.{coded}
+use Rattle.convolution.specs.Pairs.{coded}
 use Rattle.coder.specs.laws.Entries.{done-given, entry-done, entry-refused}
 use Rattle.coder.specs.laws.Format.{laidOut}
 use Rattle.coder.proofs.send_block.Statement.{statement}

@@ -1,7 +1,7 @@
 -- `coder::send_control` is right: what it sends of bits is the control block.
 use mathlib.Core.Path.{refl}
 use borrow.Author.Needs.{needs}
-use Rattle.trellis.specs.Pairs.{coded}
+use Rattle.convolution.specs.Pairs.{coded}
 use Rattle.coder.specs.Blocks.{controlBlock}
 use Rattle.coder.specs.Entries.{controlSent}
 use Rattle.coder.specs.laws.Blocks.{control-is}

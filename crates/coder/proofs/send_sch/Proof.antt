@@ -1,7 +1,7 @@
 -- `coder::send_sch` is right: what it sends of bits is the SCH burst.
 use mathlib.Core.Path.{refl}
 use borrow.Author.Needs.{needs}
-use Rattle.trellis.specs.Pairs.{coded}
+use Rattle.convolution.specs.Pairs.{coded}
 use Rattle.coder.specs.Blocks.{schBurst}
 use Rattle.coder.specs.Entries.{schSent}
 use Rattle.coder.specs.laws.Blocks.{sch-is}

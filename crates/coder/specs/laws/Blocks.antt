@@ -11,8 +11,8 @@ use Rattle.bits.specs.laws.Value.{length-digits}
 use Rattle.parity.specs.Division.{parity, controlG, accessG, schG}
 use Rattle.parity.specs.laws.Division.{length-parity}
 use Rattle.parity.specs.laws.Generators.{control-number, access-number, sch-number}
-use Rattle.trellis.specs.Pairs.{coded}
-use Rattle.trellis.specs.laws.Pairs.{length-coded}
+use Rattle.convolution.specs.Pairs.{coded}
+use Rattle.convolution.specs.laws.Pairs.{length-coded}
 use Rattle.coder.specs.Blocks.{controlU, controlBlock, colour, accessU, accessBurst, schU, schBurst, speechU, speechBlock}
 use Rattle.coder.specs.laws.Speech.{length-u}
 use Rattle.coder.specs.laws.Format.{laidOut}

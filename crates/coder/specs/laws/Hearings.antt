@@ -13,7 +13,7 @@ use Rattle.places.specs.Places.{gatheredAt, gathered}
 use Rattle.parity.specs.Division.{parity, controlG, accessG, schG}
 use Rattle.parity.specs.laws.Division.{length-parity, bits-parity}
 use Rattle.trellis.specs.Nearest.{disagreements, longest}
-use Rattle.trellis.specs.Pairs.{coded}
+use Rattle.convolution.specs.Pairs.{coded}
 use Rattle.coder.specs.Blocks.{controlU, controlBlock, sacchMessage, colour, accessU, accessBurst, schU, schBurst, speechBlock}
 use Rattle.coder.specs.Received.{Hearing, blockHeard, speechHeard}
 use Rattle.coder.specs.laws.Blocks.{control-long, access-long, control-size, speech-pairs}

@@ -11,7 +11,7 @@ use Rattle.bits.specs.laws.Value.{length-digits, bits-digits, value-digits}
 use Rattle.places.specs.Places.{gathered}
 use Rattle.parity.specs.Division.{controlG, accessG, schG}
 use Rattle.trellis.specs.Nearest.{disagreements, longest}
-use Rattle.trellis.specs.Pairs.{coded}
+use Rattle.convolution.specs.Pairs.{coded}
 use Rattle.answers.specs.Answers.{Answer, returned, ofTold, ofHeard}
 use Rattle.answers.specs.declared.Heard.{Heard}
 use Rattle.answers.specs.declared.Heard.the-variants.{Good, Bad}

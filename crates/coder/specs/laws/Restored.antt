@@ -13,7 +13,7 @@ use Rattle.bits.specs.laws.Value.{length-digits, bits-digits, digits-value}
 use Rattle.parity.specs.Division.{parity, remainder}
 use Rattle.parity.specs.laws.Division.{length-parity, bits-parity, parity-leaves, parity-only, remainder-after}
 use Rattle.trellis.specs.Nearest.{Candidate, disagreements, nearest, longest}
-use Rattle.trellis.specs.Pairs.{coded}
+use Rattle.convolution.specs.Pairs.{coded}
 use Rattle.trellis.specs.laws.Distance.{corrected}
 use Rattle.coder.specs.Received.{allOnes, blockHeard}
 

@@ -16,8 +16,8 @@ use Rattle.parity.specs.Asked.{Generates}
 use Rattle.parity.specs.Division.{parity, remainder, speechG}
 use Rattle.parity.specs.laws.Division.{length-parity, bits-parity}
 use Rattle.parity.specs.laws.Generators.{speech-number}
-use Rattle.trellis.specs.Pairs.{coded}
-use Rattle.trellis.specs.laws.Pairs.{length-coded}
+use Rattle.convolution.specs.Pairs.{coded}
+use Rattle.convolution.specs.laws.Pairs.{length-coded}
 use Rattle.coder.specs.Blocks.{speechP, speechUAt, speechU, speechBlock}
 
 -- ---- the parity of the first 50 bits

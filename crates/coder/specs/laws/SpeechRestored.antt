@@ -19,7 +19,7 @@ use Rattle.parity.specs.Division.{remainder, speechG}
 use Rattle.parity.specs.laws.Division.{length-parity, parity-leaves}
 use Rattle.parity.specs.laws.Generators.{speech-number}
 use Rattle.trellis.specs.Nearest.{Candidate, disagreements, nearest}
-use Rattle.trellis.specs.Pairs.{coded}
+use Rattle.convolution.specs.Pairs.{coded}
 use Rattle.trellis.specs.laws.Distance.{corrected}
 use Rattle.coder.specs.Blocks.{speechP, speechU}
 use Rattle.coder.specs.Received.{allOnes, speechDAt, speechHeard}

@@ -16,12 +16,12 @@ use Rattle.bits.specs.laws.Tab.{below, at-tab}
 use Rattle.register.specs.Register.{NotAfter, next, state, pathCost}
 use Rattle.register.specs.laws.Distance.{AllZero, held}
 use Rattle.register.specs.laws.Steps.{itself}
-use Rattle.trellis.specs.Pairs.{codedAt, coded, pairOf}
+use Rattle.convolution.specs.Pairs.{codedAt, coded, pairOf}
 use Rattle.trellis.specs.Nearest.{differ, disagreements, pairCost, Candidate, Nearest, nearest, nearestCount, longest}
 use Rattle.trellis.specs.laws.Candidates.{candidate-state, candidate-long}
-use Rattle.trellis.specs.laws.Linear.{codedAt-sum}
+use Rattle.convolution.specs.laws.Linear.{codedAt-sum}
 use Rattle.trellis.specs.laws.Nearest.{nearest-is, nearest-once, one-or-none}
-use Rattle.trellis.specs.laws.Pairs.{codedAt-bit}
+use Rattle.convolution.specs.laws.Pairs.{codedAt-bit}
 use Rattle.trellis.specs.laws.Paths.{by-index, bits-reverse, path-cost}
 
 -- ---- the potential: how many ones at least are still to come on the way from a state back to state 0

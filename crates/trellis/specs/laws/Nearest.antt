@@ -12,7 +12,7 @@ use Rattle.bits.specs.laws.Sum.{length-zeros, bits-zeros}
 use Rattle.register.specs.Register.{NotAfter, next, state, pathCost, Least, way, best, walk}
 use Rattle.register.specs.laws.Nearest.{good}
 use Rattle.register.specs.laws.Steps.{same-path}
-use Rattle.trellis.specs.Pairs.{coded, stateAt, pairOf}
+use Rattle.convolution.specs.Pairs.{coded, stateAt, pairOf}
 use Rattle.trellis.specs.Nearest.{differ, disagreements, pairCost, Nearest, Ends, Reached, Fewest, rowAt, nearest, nearestCount, longest}
 use Rattle.trellis.specs.laws.Candidates.{candidate-state, path-candidate}
 use Rattle.trellis.specs.laws.Paths.{bits-reverse, path-state, path-cost}

@@ -12,9 +12,9 @@ use Rattle.bits.specs.laws.Sum.{bits-append, bits-cons}
 use Rattle.bits.specs.laws.Total.{total-same}
 use Rattle.bits.specs.laws.Tab.{at-tab, at-right}
 use Rattle.register.specs.Register.{next, state, pathCost}
-use Rattle.trellis.specs.Pairs.{back, first, second, codedAt, coded, stateAt, pairOf}
+use Rattle.convolution.specs.Pairs.{back, first, second, codedAt, coded, stateAt, pairOf}
 use Rattle.trellis.specs.Nearest.{differ, disagreements, pairCost}
-use Rattle.trellis.specs.laws.Pairs.{back-early, back-late, length-coded, state-start, state-next, pair-first, pair-second}
+use Rattle.convolution.specs.laws.Pairs.{back-early, back-late, length-coded, state-start, state-next, pair-first, pair-second}
 
 -- the disagreements with the pairs of u, by the index
 pub by-index : (r u : List ℕ) → disagreements r (coded u) ≡ total (2 * length u) (λ i. differ (codedAt u i) (getD r i 0))

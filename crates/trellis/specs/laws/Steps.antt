@@ -17,7 +17,7 @@ use borrow.Author.Tests.{lt-ltb, le-ltb}
 use Rattle.bits.specs.laws.Cases.{lt-or-le}
 use Rattle.bits.specs.Bits.{Bits, pick, tab, tabFrom, value}
 use Rattle.register.specs.Register.{from, bit}
-use Rattle.trellis.specs.Pairs.{pairOf}
+use Rattle.convolution.specs.Pairs.{pairOf}
 use Rattle.trellis.specs.Nearest.{differ}
 
 -- what the pair costs that leads by the first way into state s, when x and y are received

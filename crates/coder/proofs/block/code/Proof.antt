@@ -3,7 +3,7 @@ use mathlib.Core.Path.{ap, _∙_}
 use borrow.Author.Needs.{needs}
 use lib.ListN.{replicate}
 use Rattle.trellis.specs.Nearest.{longest}
-use Rattle.trellis.specs.Pairs.{coded}
+use Rattle.convolution.specs.Pairs.{coded}
 use Rattle.coder.specs.laws.Protected.{laid-front, laid-long, coded-asked}
 use Rattle.coder.proofs.block.code.Statement.{statement}
 use Rattle.coder.proofs.block.code.Tie as tie

@@ -1,11 +1,11 @@
--- `trellis::first` is right: an exclusive or is a sum modulo 2.
+-- `convolution::first` is right: an exclusive or is a sum modulo 2.
 use mathlib.Core.Path.{_≡_, ap₂, _∙_}
 use lib.Bits.{bitXor}
 use borrow.Author.Needs.{needs}
-use Rattle.trellis.specs.Pairs.{back}
-use Rattle.trellis.specs.laws.Pairs.{first-xor}
-use Rattle.trellis.proofs.first.Statement.{statement}
-use Rattle.trellis.proofs.first.Tie as tie
+use Rattle.convolution.specs.Pairs.{back}
+use Rattle.convolution.specs.laws.Pairs.{first-xor}
+use Rattle.convolution.proofs.first.Statement.{statement}
+use Rattle.convolution.proofs.first.Tie as tie
 
 returns : tie.Need-returns
 returns c =

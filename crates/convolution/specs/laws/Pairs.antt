@@ -13,7 +13,7 @@ use Rattle.bits.specs.Bits.{Bits, pick}
 use Rattle.bits.specs.laws.Cases.{lt-or-le}
 use Rattle.bits.specs.laws.Tab.{length-tab, even-place, odd-place}
 use Rattle.bits.specs.laws.Value.{xor-bits}
-use Rattle.trellis.specs.Pairs.{back, first, second, codedAt, coded, stateAt, pairOf}
+use Rattle.convolution.specs.Pairs.{back, first, second, codedAt, coded, stateAt, pairOf}
 
 -- ---- what stands j places back
 pub back-early : (u : List ℕ) (k j : ℕ) → k < j → back u k j ≡ 0

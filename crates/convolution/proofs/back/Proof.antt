@@ -1,9 +1,9 @@
--- `trellis::back` is right: a place before the first has 0, every other its bit.
+-- `convolution::back` is right: a place before the first has 0, every other its bit.
 use mathlib.Core.Path.{sym}
 use borrow.Author.Needs.{needs}
-use Rattle.trellis.specs.laws.Pairs.{back-early, back-late}
-use Rattle.trellis.proofs.back.Statement.{statement}
-use Rattle.trellis.proofs.back.Tie as tie
+use Rattle.convolution.specs.laws.Pairs.{back-early, back-late}
+use Rattle.convolution.proofs.back.Statement.{statement}
+use Rattle.convolution.proofs.back.Tie as tie
 
 returns : tie.Need-returns
 returns c = let a = c .before .args in sym (back-early (a .u .now) (a .k) (a .j) (c .if1 .taken))

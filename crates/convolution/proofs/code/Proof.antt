@@ -1,14 +1,14 @@
--- `trellis::code` is right: before bit k it has written the k pairs before, each by its two formulas.
+-- `convolution::code` is right: before bit k it has written the k pairs before, each by its two formulas.
 use mathlib.Core.Path.{sym, _∙_}
 use Prim.Native.Nat.{_+_, _-_, _*_, _≤_, _<_}
 use native.Mathlib.Omega.{arith}
 use borrow.Author.Needs.{needs}
 use lib.ListN.{length, length-set}
-use Rattle.trellis.specs.Pairs.{coded, codedAt}
-use Rattle.trellis.specs.laws.Pairs.{coded-even, coded-odd}
+use Rattle.convolution.specs.Pairs.{coded, codedAt}
+use Rattle.convolution.specs.laws.Pairs.{coded-even, coded-odd}
 use Rattle.bits.specs.laws.Tab.{Filled, filled-none, filled-pair, filled-all}
-use Rattle.trellis.proofs.code.Statement.{statement}
-use Rattle.trellis.proofs.code.Tie as tie
+use Rattle.convolution.proofs.code.Statement.{statement}
+use Rattle.convolution.proofs.code.Tie as tie
 
 abbrev Inv-loop : tie.InvT-loop
 Inv-loop u c₀ k₀ c k = (k ≤ length u) × Filled (codedAt u) (2 * length u) (2 * k) c

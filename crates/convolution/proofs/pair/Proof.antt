@@ -1,8 +1,8 @@
--- `trellis::pair` is right: its table is the printed one, whose rule is proved over the whole table.
+-- `convolution::pair` is right: its table is the printed one, whose rule is proved over the whole table.
 use borrow.Author.Needs.{needs}
-use Rattle.trellis.specs.laws.Table.{printed, printed-right}
-use Rattle.trellis.proofs.pair.Statement.{statement}
-use Rattle.trellis.proofs.pair.Tie as tie
+use Rattle.convolution.specs.laws.Table.{printed, printed-right}
+use Rattle.convolution.proofs.pair.Statement.{statement}
+use Rattle.convolution.proofs.pair.Tie as tie
 
 returns : tie.Need-returns
 unfolding printed

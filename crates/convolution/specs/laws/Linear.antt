@@ -10,8 +10,8 @@ use Rattle.bits.specs.Bits.{sum, add, tab}
 use Rattle.bits.specs.laws.Cases.{lt-or-le}
 use Rattle.bits.specs.laws.Sum.{at-add, length-add}
 use Rattle.bits.specs.laws.Tab.{at-tab, is-tab, length-tab}
-use Rattle.trellis.specs.Pairs.{back, first, second, codedAt, coded}
-use Rattle.trellis.specs.laws.Pairs.{back-early, back-late, coded-even, coded-odd}
+use Rattle.convolution.specs.Pairs.{back, first, second, codedAt, coded}
+use Rattle.convolution.specs.laws.Pairs.{back-early, back-late, coded-even, coded-odd}
 
 -- sums may be taken modulo 2 late
 late-two : (p q : ℕ) → (p % 2 + q % 2) % 2 ≡ (p + q) % 2

@@ -7,7 +7,7 @@ use native.Mathlib.Omega.{arith}
 use lib.Dec.{eqb, eqb→eq}
 use lib.ListN.{getD}
 use Rattle.bits.specs.laws.Tab.{below}
-use Rattle.trellis.specs.Pairs.{pairOf}
+use Rattle.convolution.specs.Pairs.{pairOf}
 
 -- the pairs as printed: for each state, for next bit 0 and for next bit 1
 unfoldable pub printed : List (List ℕ)

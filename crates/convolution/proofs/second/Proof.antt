@@ -1,10 +1,10 @@
--- `trellis::second` is right: the other formula has u(k-1) more.
+-- `convolution::second` is right: the other formula has u(k-1) more.
 use mathlib.Core.Path.{ap₂, _∙_}
 use lib.Bits.{bitXor}
 use borrow.Author.Needs.{needs}
-use Rattle.trellis.specs.laws.Pairs.{second-xor}
-use Rattle.trellis.proofs.second.Statement.{statement}
-use Rattle.trellis.proofs.second.Tie as tie
+use Rattle.convolution.specs.laws.Pairs.{second-xor}
+use Rattle.convolution.proofs.second.Statement.{statement}
+use Rattle.convolution.proofs.second.Tie as tie
 
 returns : tie.Need-returns
 returns c =
