@@ -1,6 +1,5 @@
 -- What is said of a call, in 01's numbers; a whole answer; and what it is to meet one.
 use mathlib.Core.List.{List}
-use mathlib.Core.Option.{Option, none, some}
 use mathlib.Core.Path.{_≡_}
 use Prim.Native.Nat.{ℕ}
 use Rattle.answers.specs.declared.Refusal.{Refusal}
@@ -9,6 +8,9 @@ use Rattle.answers.specs.declared.Told.{Told}
 use Rattle.answers.specs.declared.Told.the-variants as told
 use Rattle.answers.specs.declared.Heard.{Heard}
 use Rattle.answers.specs.declared.Heard.the-variants as heard
+use Rattle.answers.specs.declared.Maybe.{Maybe}
+use Rattle.answers.specs.declared.Maybe.the-variants.{None, Some}
+use Rattle.answers.specs.declared.Returned.{Returned}
 
 -- 01, Numbers given for a no
 abbrev pub numberOf : Refusal → ℕ
@@ -23,23 +25,19 @@ numberOf Parity = 8
 numberOf Flags = 9
 
 -- ---- what is returned: the number, if one is given, and the count, if 01 says that it is returned besides
-pub record Returned : Type 0 where
-  pub number : Option ℕ
-  pub count : Option ℕ
-
-abbrev pub returned : Option ℕ → Option ℕ → Returned
+abbrev pub returned : Maybe → Maybe → Returned
 returned number count = record { number = number; count = count }
 
 -- a call that is done gives no number
 abbrev pub ofTold : Told → Returned
-ofTold told.Done = returned none none
-ofTold (told.Refused r) = returned (some (numberOf r)) none
+ofTold told.Done = returned None None
+ofTold (told.Refused r) = returned (Some (numberOf r)) None
 
 -- a good block gives its count, a bad parity 8 and the count
 abbrev pub ofHeard : Heard → Returned
-ofHeard (heard.Good k) = returned none (some k)
-ofHeard (heard.Refused r) = returned (some (numberOf r)) none
-ofHeard (heard.Bad k) = returned (some (numberOf Parity)) (some k)
+ofHeard (heard.Good k) = returned None (Some k)
+ofHeard (heard.Refused r) = returned (Some (numberOf r)) None
+ofHeard (heard.Bad k) = returned (Some (numberOf Parity)) (Some k)
 
 -- ---- a whole answer: the result of a call, and what the lent buffer then holds
 pub record Answer (A : Type 0) : Type 0 where

@@ -1,6 +1,7 @@
-// What every entry says of its call: done, refused with one of 01's numbers, or what was received.
+// What every entry says of its call: done, refused with one of 01's numbers, or what was received; and the same in 01's numbers.
 ghost use mathlib.Core.Path.{_≡_};
-ghost use Rattle.answers.specs.Answers.{numberOf};
+ghost use Rattle.answers.specs.Answers.{numberOf, ofTold, ofHeard};
+ghost use Rattle.answers.specs.declared.Maybe.the-variants.{Some};
 
 // Why there is a no (01, Numbers given for a no).
 pub enum Refusal {
@@ -53,5 +54,60 @@ pub fn number(r: Refusal) -> u8
         Refusal::Ended => 7,
         Refusal::Parity => 8,
         Refusal::Flags => 9,
+    }
+}
+
+// A number that is returned, or none.
+pub enum Maybe {
+    None,
+    Some(u16),
+}
+
+// What is returned: 01's number, if one is given, and the count, if 01 says that it is returned besides.
+pub struct Returned {
+    pub number: Maybe,
+    pub count: Maybe,
+}
+
+// The number of a refusal is given.
+pub fn given(why: Refusal) -> Maybe
+    ensures { λ r. ⌜ r ≡ Some (numberOf why) ⌝ }
+{
+    Maybe::Some(number(why) as u16)
+}
+
+// What is returned of a send.
+pub fn of_told(told: Told) -> Returned
+    ensures { λ r. ⌜ r ≡ ofTold told ⌝ }
+{
+    match told {
+        Told::Done => Returned {
+            number: Maybe::None,
+            count: Maybe::None,
+        },
+        Told::Refused(why) => Returned {
+            number: given(why),
+            count: Maybe::None,
+        },
+    }
+}
+
+// What is returned of a block that is received.
+pub fn of_heard(heard: Heard) -> Returned
+    ensures { λ r. ⌜ r ≡ ofHeard heard ⌝ }
+{
+    match heard {
+        Heard::Good(count) => Returned {
+            number: Maybe::None,
+            count: Maybe::Some(count),
+        },
+        Heard::Refused(why) => Returned {
+            number: given(why),
+            count: Maybe::None,
+        },
+        Heard::Bad(count) => Returned {
+            number: given(Refusal::Parity),
+            count: Maybe::Some(count),
+        },
     }
 }

@@ -1,6 +1,7 @@
 -- What is promised of sending and receiving together, over the definitions that the entries' contracts cite. Proved in laws/Promises.
 use mathlib.Core.List.{List, _++_}
-use mathlib.Core.Option.{Option, none, some}
+use Rattle.answers.specs.declared.Maybe.{Maybe}
+use Rattle.answers.specs.declared.Maybe.the-variants.{None, Some}
 use mathlib.Core.Path.{_≡_}
 use Prim.Native.Nat.{ℕ, _≤_}
 use lib.ListN.{take, drop}
@@ -17,22 +18,22 @@ abbrev pub altered : (List ℕ → List ℕ) → List ℕ → List ℕ → ℕ
 altered protected sent arrived = disagreements (protected arrived) (protected sent)
 
 -- what a receiving entry returns, in 01's number and count, and what the buffer then holds
-abbrev pub Returns : Answer Heard → Option ℕ → Option ℕ → List ℕ → Type 0
+abbrev pub Returns : Answer Heard → Maybe → Maybe → List ℕ → Type 0
 Returns a number count left = (ofHeard (a .result) ≡ returned number count) × (a .left ≡ left)
 
 -- good: no number, this count, these bits handed over; found bad: 8, this count, the buffer as before
 abbrev pub Accepts : Answer Heard → ℕ → List ℕ → Type 0
-Accepts a count bits = Returns a none (some count) bits
+Accepts a count bits = Returns a None (Some count) bits
 
 abbrev pub FindsBad : Answer Heard → ℕ → List ℕ → Type 0
-FindsBad a count before = Returns a (some 8) (some count) before
+FindsBad a count before = Returns a (Some 8) (Some count) before
 
 -- Any n bits d are sent, and are m. Any m bits e arrive. If at most three of the protected bits are altered, what is received is good,
 -- the count is the number altered, and the bits are those that `handed` says of d and e.
 abbrev pub ComesBack : ℕ → ℕ → (List ℕ → List ℕ → Answer Told) → (List ℕ → List ℕ → Answer Heard) → (List ℕ → List ℕ) → (List ℕ → List ℕ → List ℕ) → Type 0
 ComesBack n m send receive protected handed =
     (d c e out : List ℕ) → Given n m d c → Given m n e out → altered protected (send d c .left) e ≤ 3
-    → (ofTold (send d c .result) ≡ returned none none) × Accepts (receive e out) (altered protected (send d c .left) e) (handed d e)
+    → (ofTold (send d c .result) ≡ returned None None) × Accepts (receive e out) (altered protected (send d c .left) e) (handed d e)
 
 -- every bit is protected; the bits are those that were sent
 abbrev pub whole : List ℕ → List ℕ

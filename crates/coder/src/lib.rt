@@ -28,7 +28,7 @@ pub struct View {
 const VIEWED: usize = 228;
 
 // The first refusal that applies to an entry that reads `reads` bits into `writes` bytes, or none.
-fn judge(d: &[u8], reads: usize, out: usize, writes: usize, identity: u8) -> Told
+fn judge(d: &[u8], reads: usize, out: usize, writes: usize, identity: u64) -> Told
     ensures { λ r. ⌜ r ≡ judged (both (eqb (length (now (d .entry))) reads) (eqb out writes)) (allBits (now (d .entry))) (leb identity 63) ⌝ }
 {
     if d.len() != reads {
@@ -47,25 +47,25 @@ fn judge(d: &[u8], reads: usize, out: usize, writes: usize, identity: u8) -> Tol
 }
 
 // An entry for a block whose parity stands at its end, the identity added to it.
-fn send_block(f: Format, identity: u8, d: &[u8], c: &mut [u8]) -> Told
+fn send_block(f: Format, identity: u64, d: &[u8], c: &mut [u8]) -> Told
     requires { ⌜ Fits f ⌝ }
     ensures { λ r. ⌜ Meets (entry (f .bits) (f .coded) identity (now (d .entry)) (coded (laidOut (f .generator) (f .degree) identity (now (d .entry)))) (now (c .entry))) r (now (c .exit)) ⌝ }
 {
     let told = judge(d, f.bits, c.len(), f.coded, identity);
     if let Told::Done = told {
-        block::code(f.generator, f.degree, identity as u64, d, c);
+        block::code(f.generator, f.degree, identity, d, c);
     }
     told
 }
 
 // The same block received.
-fn receive_block(f: Format, identity: u8, c: &[u8], d: &mut [u8]) -> Heard
+fn receive_block(f: Format, identity: u64, c: &[u8], d: &mut [u8]) -> Heard
     requires { ⌜ Fits f ⌝ }
     ensures { λ r. ⌜ Meets (reception (f .coded) (f .bits) identity (now (c .entry)) (blockHeard (generatorOf f) identity (f .bits) (now (c .entry))) (now (d .entry))) r (now (d .exit)) ⌝ }
 {
     let told = judge(c, f.coded, d.len(), f.bits, identity);
     match told {
-        Told::Done => block::receive(f, identity as u64, c, d),
+        Told::Done => block::receive(f, identity, c, d),
         Told::Refused(why) => Heard::Refused(why),
     }
 }
@@ -100,7 +100,7 @@ pub fn send_sacch(d: &[u8], e: &mut [u8]) -> Told
 }
 
 // Access: the identity and 8 bits to 36.
-pub fn send_access(identity: u8, d: &[u8], e: &mut [u8]) -> Told
+pub fn send_access(identity: u64, d: &[u8], e: &mut [u8]) -> Told
     ensures { λ r. ⌜ Meets (accessSent identity (now (d .entry)) (now (e .entry))) r (now (e .exit)) ⌝ }
 {
     send_block(block::ACCESS, identity, d, e)
@@ -143,7 +143,7 @@ pub fn receive_sacch(e: &[u8], d: &mut [u8]) -> Heard
 }
 
 // Access received: the identity and 36 bits to 8.
-pub fn receive_access(identity: u8, e: &[u8], d: &mut [u8]) -> Heard
+pub fn receive_access(identity: u64, e: &[u8], d: &mut [u8]) -> Heard
     ensures { λ r. ⌜ Meets (accessReceived identity (now (e .entry)) (now (d .entry))) r (now (d .exit)) ⌝ }
 {
     receive_block(block::ACCESS, identity, e, d)

@@ -32,7 +32,7 @@ fn of_heard(heard: Heard) -> u32
 
 // Access: the identity and 8 bits to 36.
 #[no_mangle]
-pub extern "C" fn desk_send_access(identity: u8, d: &[u8], e: &mut [u8]) -> u32
+pub extern "C" fn desk_send_access(identity: u64, d: &[u8], e: &mut [u8]) -> u32
     ensures { λ n. ⌜ Meets (inOneNumber ofTold (accessSent identity (now (d .entry)) (now (e .entry)))) n (now (e .exit)) ⌝ }
 {
     of_told(coder::send_access(identity, d, e))
@@ -40,7 +40,7 @@ pub extern "C" fn desk_send_access(identity: u8, d: &[u8], e: &mut [u8]) -> u32
 
 // Access received: the identity and 36 bits to 8.
 #[no_mangle]
-pub extern "C" fn desk_receive_access(identity: u8, e: &[u8], d: &mut [u8]) -> u32
+pub extern "C" fn desk_receive_access(identity: u64, e: &[u8], d: &mut [u8]) -> u32
     ensures { λ n. ⌜ Meets (inOneNumber ofHeard (accessReceived identity (now (e .entry)) (now (d .entry)))) n (now (d .exit)) ⌝ }
 {
     of_heard(coder::receive_access(identity, e, d))

@@ -1,7 +1,7 @@
 -- Demand 3, for streams, over the definitions that the contracts of `stream` cite. Proved in laws/Promise.
 use mathlib.Core.Bool.{true}
 use mathlib.Core.List.{List, [], _∷_, _++_}
-use mathlib.Core.Option.{none, some}
+use Rattle.answers.specs.declared.Maybe.the-variants.{None, Some}
 use mathlib.Core.Path.{_≡_}
 use Prim.Native.Nat.{ℕ, zero, suc, _+_, _*_, _/_, _%_, _≤_, _<_}
 use lib.Dec.{ltb}
@@ -16,8 +16,8 @@ use Rattle.stream.specs.Receiving.{vote, byKind, freshReceiver, takeAnswer}
 use Rattle.stream.specs.Sending.{isFacch, isBlock, freshSender, sendAnswer, endAnswer}
 use Rattle.stream.specs.declared.Taken.{Taken}
 use Rattle.stream.specs.declared.Taken.the-variants.{Waiting}
-use Rattle.stream.specs.declared.receiver.Kind.{Kind}
-use Rattle.stream.specs.declared.receiver.Kind.the-variants as kind
+use Rattle.stream.specs.declared.Kind.{Kind}
+use Rattle.stream.specs.declared.Kind.the-variants as kind
 use Rattle.stream.specs.declared.receiver.Received.{Received}
 use Rattle.stream.specs.declared.receiver.Receiver.{Receiver}
 use Rattle.stream.specs.declared.sender.Sender.{Sender}
@@ -87,7 +87,7 @@ bitsOut d c out = pick (isFacch (length d)) (d ++ drop 184 out) (take 182 d ++ d
 
 -- a block comes back: no number is given, but the block's kind, its n and its count, and the buffer then holds these bytes
 pub record Brings (a : Answer Received) (k : Kind) (n count : ℕ) (bytes : List ℕ) : Type 0 where
-  pub told : ofTaken (a .result .told) ≡ values none (some k) (some n) (some count)
+  pub told : ofTaken (a .result .told) ≡ values None k (Some n) (Some count)
   pub left : a .left ≡ bytes
 
 -- ---- THE PROMISE: any lesson is sent and ended, and any bits arrive, as many as were sent. Whatever happened to other blocks: if at most
@@ -103,8 +103,8 @@ StreamPromise =
 
 -- every send and the end give no number, and N blocks make 4N+4 bursts
 unfoldable pub AllDone : Sender → (ℕ → List ℕ) → List (List ℕ) → Type 0
-AllDone s lent [] = ofTold (endAnswer s (lent 0) .result .told) ≡ returned none none
-AllDone s lent (d ∷ ds) = (ofTold (sendAnswer s d (lent 0) .result .told) ≡ returned none none) × AllDone (sendAnswer s d (lent 0) .result .next) (λ i. lent (suc i)) ds
+AllDone s lent [] = ofTold (endAnswer s (lent 0) .result .told) ≡ returned None None
+AllDone s lent (d ∷ ds) = (ofTold (sendAnswer s d (lent 0) .result .told) ≡ returned None None) × AllDone (sendAnswer s d (lent 0) .result .next) (λ i. lent (suc i)) ds
 
 abbrev pub BurstsMade : Type 0
 BurstsMade =

@@ -21,8 +21,8 @@ use Rattle.stream.specs.declared.Taken.{Taken}
 use Rattle.stream.specs.declared.Taken.the-variants as taken
 use Rattle.stream.specs.declared.receiver.Received.{Received}
 use Rattle.stream.specs.declared.receiver.Receiver.{Receiver}
-use Rattle.stream.specs.declared.receiver.Kind.{Kind}
-use Rattle.stream.specs.declared.receiver.Kind.the-variants as kind
+use Rattle.stream.specs.declared.Kind.{Kind}
+use Rattle.stream.specs.declared.Kind.the-variants as kind
 
 -- nothing is taken
 unfoldable pub freshReceiver : Receiver

@@ -1,4 +1,5 @@
 // The receiver: it takes bursts one by one and holds the last eight; burst 4n+7 brings the answer for block n (01, Bursts and streams).
+use crate::Kind;
 use crate::Taken;
 use answers::Heard;
 use answers::Refusal;
@@ -15,7 +16,7 @@ ghost use Rattle.bits.specs.Bits.{allBits, both};
 ghost use Rattle.burst.specs.Held.{heldBlock};
 ghost use Rattle.stream.specs.Receiving.{freshReceiver, takeJudged, vote, byKind, blockAnswer, burstAnswer, takeAnswer};
 ghost use Rattle.stream.specs.laws.Receiving.{asTaken};
-ghost use Rattle.stream.specs.declared.receiver.Kind.the-variants.{Speech, Facch};
+ghost use Rattle.stream.specs.declared.Kind.the-variants.{Speech, Facch};
 
 // The number of the next burst, and the last eight bursts: burst B stands at 116 (B mod 8).
 pub struct Receiver {
@@ -27,13 +28,6 @@ pub struct Receiver {
 pub struct Received {
     pub told: Taken,
     pub next: Receiver,
-}
-
-// The kind of a block by its flags.
-pub enum Kind {
-    Speech,
-    Facch,
-    Neither,
 }
 
 // The first refusal that applies, or none: 1, 2, 5, 4.

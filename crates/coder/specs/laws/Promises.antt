@@ -1,6 +1,6 @@
 -- The promises are kept: an entry that is given what it should be sends its block, and three altered bits are corrected.
 use mathlib.Core.List.{List, _++_}
-use mathlib.Core.Option.{none}
+use Rattle.answers.specs.declared.Maybe.the-variants.{None}
 use mathlib.Core.Path.{_≡_, refl, sym, ap, _∙_, subst}
 use Prim.Native.Nat.{ℕ, _+_, _≤_, _<_, _^_}
 use native.Mathlib.Omega.{arith}
@@ -88,7 +88,7 @@ module _ (g : List ℕ) (i n m : ℕ) (short : n + length g + 4 ≤ longest) (bl
   fewer : disagreements (protected e) (coded (coloured g (digits (length g) i) d)) ≤ 3
   fewer = subst (λ (x : List ℕ). disagreements (protected e) x ≤ 3) is few
 
-  pub kept : (ofTold (entry n m i d (block d) c .result) ≡ returned none none)
+  pub kept : (ofTold (entry n m i d (block d) c .result) ≡ returned None None)
       × Accepts (reception m n i e (blockHeard g i n (protected e)) out) (altered protected (entry n m i d (block d) c .left) e) d
   kept = (
     ap (λ (a : Answer Told). ofTold (a .result)) sent,

@@ -28,8 +28,8 @@ use Rattle.stream.specs.Receiving.{vote, byKind, speechOf, facchOf, goodOrBad}
 use Rattle.stream.specs.Sending.{isFacch, isBlock, blockOf, flagOf, freshSender}
 use Rattle.stream.specs.declared.Taken.{Taken}
 use Rattle.stream.specs.declared.Taken.the-variants.{Speech, Facch}
-use Rattle.stream.specs.declared.receiver.Kind.{Kind}
-use Rattle.stream.specs.declared.receiver.Kind.the-variants as kind
+use Rattle.stream.specs.declared.Kind.{Kind}
+use Rattle.stream.specs.declared.Kind.the-variants as kind
 use Rattle.stream.specs.declared.receiver.Received.{Received}
 use Rattle.promise.specs.Promise.{Valid, Lesson, made, blockBits, blockFlags, protected, bitsAltered, flagsAltered, kindOf, bitsOut, takenAt, Brings, Answers, answerFor, StreamPromise, BurstsMade, IdleHalves, Locality, NeverAThird}
 use Rattle.promise.specs.laws.Sent.{fresh-able, sent-bit, sent-flag, all-done, first-idle, last-idle}

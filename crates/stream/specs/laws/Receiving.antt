@@ -31,8 +31,8 @@ use Rattle.stream.specs.declared.Taken.{Taken}
 use Rattle.stream.specs.declared.Taken.the-variants as taken
 use Rattle.stream.specs.declared.receiver.Received.{Received}
 use Rattle.stream.specs.declared.receiver.Receiver.{Receiver}
-use Rattle.stream.specs.declared.receiver.Kind.{Kind}
-use Rattle.stream.specs.declared.receiver.Kind.the-variants.{Speech, Facch}
+use Rattle.stream.specs.declared.Kind.{Kind}
+use Rattle.stream.specs.declared.Kind.the-variants.{Speech, Facch}
 
 -- ---- the block that is gathered
 pub held-bits : (held : List ℕ) (n : ℕ) → Bits (heldBlock held n)

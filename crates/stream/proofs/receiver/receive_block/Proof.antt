@@ -5,7 +5,7 @@ use Rattle.stream.specs.Receiving.{vote, byKind}
 use Rattle.stream.specs.laws.Receiving.{by-kind}
 use Rattle.stream.specs.declared.Taken.{Taken}
 use Rattle.stream.specs.declared.Taken.the-variants.{Tie}
-use Rattle.stream.specs.declared.receiver.Kind.the-variants.{Speech, Facch, Neither}
+use Rattle.stream.specs.declared.Kind.the-variants.{Speech, Facch, Neither}
 use borrow.Author.Needs.{needs}
 use Rattle.stream.proofs.receiver.receive_block.Statement.{statement}
 use Rattle.stream.proofs.receiver.receive_block.Tie as tie
