@@ -49,6 +49,14 @@ pub record Meets {A : Type 0} (a : Answer A) (r : A) (after : List ℕ) : Type 0
   pub result : r ≡ a .result
   pub left : after ≡ a .left
 
+-- what a call returns, in 01's number and count, and what the buffer then holds
+abbrev pub Returns : {A : Type 0} → (A → Returned) → Answer A → Maybe → Maybe → List ℕ → Type 0
+Returns of a number count left = (of (a .result) ≡ returned number count) × (a .left ≡ left)
+
+-- refused: this number and nothing besides, the buffer as before
+abbrev pub Refuses : {A : Type 0} → (A → Returned) → Answer A → ℕ → List ℕ → Type 0
+Refuses of a number before = Returns of a (Some number) None before
+
 -- done: what is sent stands in the buffer; refused: the buffer stands as before
 unfoldable pub sentOr : Told → List ℕ → List ℕ → List ℕ
 sentOr told.Done sent before = sent

@@ -1,6 +1,7 @@
 pub mod Blocks
 pub mod Entries
 pub mod Received
+pub mod Says
 pub mod Promises
 pub mod Examples
 pub mod laws

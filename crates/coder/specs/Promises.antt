@@ -1,32 +1,21 @@
 -- What is promised of sending and receiving together, over the definitions that the entries' contracts cite. Proved in laws/Promises.
 use mathlib.Core.List.{List, _++_}
-use Rattle.answers.specs.declared.Maybe.{Maybe}
-use Rattle.answers.specs.declared.Maybe.the-variants.{None, Some}
+use Rattle.answers.specs.declared.Maybe.the-variants.{None}
 use mathlib.Core.Path.{_≡_}
 use Prim.Native.Nat.{ℕ, _≤_}
 use lib.ListN.{take, drop}
 use Rattle.trellis.specs.Nearest.{disagreements}
 use Rattle.places.specs.Places.{gathered}
-use Rattle.answers.specs.Answers.{Answer, returned, ofTold, ofHeard}
+use Rattle.answers.specs.Answers.{Answer, returned, ofTold}
 use Rattle.answers.specs.declared.Heard.{Heard}
 use Rattle.answers.specs.declared.Told.{Told}
 use Rattle.coder.specs.Entries.{Given, speechSent, controlSent, sacchSent, accessSent, schSent}
+use Rattle.coder.specs.Says.{Accepts, FindsBad}
 use Rattle.coder.specs.Received.{speechReceived, controlReceived, sacchReceived, accessReceived, schReceived}
 
 -- how many of the protected bits of what was sent are altered in what arrived
 abbrev pub altered : (List ℕ → List ℕ) → List ℕ → List ℕ → ℕ
 altered protected sent arrived = disagreements (protected arrived) (protected sent)
-
--- what a receiving entry returns, in 01's number and count, and what the buffer then holds
-abbrev pub Returns : Answer Heard → Maybe → Maybe → List ℕ → Type 0
-Returns a number count left = (ofHeard (a .result) ≡ returned number count) × (a .left ≡ left)
-
--- good: no number, this count, these bits handed over; found bad: 8, this count, the buffer as before
-abbrev pub Accepts : Answer Heard → ℕ → List ℕ → Type 0
-Accepts a count bits = Returns a None (Some count) bits
-
-abbrev pub FindsBad : Answer Heard → ℕ → List ℕ → Type 0
-FindsBad a count before = Returns a (Some 8) (Some count) before
 
 -- Any n bits d are sent, and are m. Any m bits e arrive. If at most three of the protected bits are altered, what is received is good,
 -- the count is the number altered, and the bits are those that `handed` says of d and e.

@@ -12,3 +12,4 @@ pub mod Restored
 pub mod SpeechRestored
 pub mod Hearings
 pub mod Promises
+pub mod Says

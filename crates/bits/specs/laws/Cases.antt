@@ -22,3 +22,7 @@ pub both-second : (a b : Bool) → both a b ≡ true → b ≡ true
 both-second true b e = e
 both-second false true e = refl
 both-second false false e = e
+
+pub not-true : (b : Bool) → (b ≡ true → ⊥) → b ≡ false
+not-true true h = absurd (h refl)
+not-true false h = refl

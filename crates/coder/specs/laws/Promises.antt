@@ -20,7 +20,8 @@ use Rattle.answers.specs.declared.Told.the-variants.{Done}
 use Rattle.coder.specs.Blocks.{controlBlock, sacchMessage, accessBurst, schBurst, speechBlock}
 use Rattle.coder.specs.Entries.{Given, entry, speechSent, controlSent, sacchSent, accessSent, schSent}
 use Rattle.coder.specs.Received.{Hearing, blockHeard, speechHeard, reception, speechReceived, controlReceived, sacchReceived, accessReceived, schReceived}
-use Rattle.coder.specs.Promises.{altered, whole, Accepts, FindsBad, SpeechPromise, ControlPromise, SacchPromise, SchPromise, AccessPromise}
+use Rattle.coder.specs.Says.{Accepts, FindsBad}
+use Rattle.coder.specs.Promises.{altered, whole, SpeechPromise, ControlPromise, SacchPromise, SchPromise, AccessPromise}
 use Rattle.coder.specs.laws.Blocks.{control-long, access-long, sch-long}
 use Rattle.coder.specs.laws.Entries.{sends}
 use Rattle.coder.specs.laws.Heard.{hears-good, hears-bad}

@@ -6,8 +6,9 @@ use Prim.Native.Nat.{ℕ, _+_, _-_, _≤_}
 use native.Mathlib.Omega.{arith}
 use lib.ListN.{length, take, drop, length-append}
 use lib.Seq.{take-at, drop-at}
-use borrow.Author.Tests.{eq-eqb, ne-eqb}
+use borrow.Author.Tests.{eq-eqb, eqb-true}
 use Rattle.bits.specs.Bits.{Bits, add, digits, value, ones, zeros}
+use Rattle.bits.specs.laws.Cases.{not-true}
 use Rattle.bits.specs.laws.Sum.{length-ones, length-zeros, bits-ones, bits-zeros, bits-append, length-add, bits-add, add-assoc, add-twice, add-self, add-nothing, sum-nothing}
 use Rattle.bits.specs.laws.Value.{length-digits, bits-digits, digits-value}
 use Rattle.parity.specs.Division.{parity, remainder}
@@ -20,6 +21,21 @@ use Rattle.coder.specs.Received.{allOnes, blockHeard}
 -- ---- a list of bits by its number
 pub same-value : (v w : List ℕ) → length v ≡ length w → Bits v → Bits w → value v ≡ value w → v ≡ w
 same-value v w l bv bw e = sym (digits-value v bv) ∙ ap₂ digits l e ∙ digits-value w bw
+
+-- ---- the verdict's number is that of all ones exactly where the remainder is all ones
+module _ (g d q : List ℕ) (lq : length q ≡ length g) (bd : Bits d) (bq : Bits q) where
+  pub ones-good : remainder g (d ++ q) ≡ ones (length g) → allOnes g (d ++ q) ≡ true
+  unfolding allOnes
+  ones-good e = eq-eqb _ _ (ap value e)
+
+  pub good-ones : allOnes g (d ++ q) ≡ true → remainder g (d ++ q) ≡ ones (length g)
+  unfolding allOnes
+  good-ones e =
+      let x : List ℕ = remainder g (d ++ zeros (length g)) in
+      let r : remainder g (d ++ q) ≡ add x q = remainder-after g d q lq bd bq in
+      let lr : length (remainder g (d ++ q)) ≡ length (ones (length g)) = ap length r ∙ length-add x q ∙ lq ∙ sym (length-ones (length g)) in
+      let br : Bits (remainder g (d ++ q)) = subst Bits (sym r) (bits-add x q bq) in
+      same-value (remainder g (d ++ q)) (ones (length g)) lr br (bits-ones (length g)) (eqb-true (value (remainder g (d ++ q))) (value (ones (length g))) e)
 
 -- ---- the verdict over the parity bits of d, to which two colours are added: good only where they are one
 module _ (g d : List ℕ) (bd : Bits d) where
@@ -45,17 +61,11 @@ module _ (g d : List ℕ) (bd : Bits d) where
         sum-nothing (length g) a b la ba bb nothing
 
     pub other-colour : (a ≡ b → ⊥) → allOnes g (d ++ add (add p a) b) ≡ false
-    unfolding allOnes
     other-colour n =
         let q : List ℕ = add (add p a) b in
         let lq : length q ≡ length g = length-add (add p a) b ∙ lb in
         let bq : Bits q = bits-add (add p a) b bb in
-        let x : List ℕ = remainder g (d ++ zeros (length g)) in
-        let r : remainder g (d ++ q) ≡ add x q = remainder-after g d q lq bd bq in
-        let lr : length (remainder g (d ++ q)) ≡ length (ones (length g)) = ap length r ∙ length-add x q ∙ lq ∙ sym (length-ones (length g)) in
-        let br : Bits (remainder g (d ++ q)) = subst Bits (sym r) (bits-add x q bq) in
-        ne-eqb _ _ (λ (e : value (remainder g (d ++ q)) ≡ value (ones (length g))).
-        n (sum-is (parity-only g d bd q lq bq (same-value (remainder g (d ++ q)) (ones (length g)) lr br (bits-ones (length g)) e))))
+        not-true (allOnes g (d ++ q)) (λ (e : allOnes g (d ++ q) ≡ true). n (sum-is (parity-only g d bd q lq bq (good-ones g d q lq bd bq e))))
 
 -- ---- u of a block d with its parity bits over g, to which colour a is added
 unfoldable pub coloured : List ℕ → List ℕ → List ℕ → List ℕ

@@ -30,6 +30,14 @@ pub d-odd : (u : List ℕ) (k : ℕ) → speechDAt u (2 * k + 1) ≡ getD u (184
 unfolding speechDAt
 d-odd u k = odd-place (λ i. getD u i 0) (λ i. getD u (184 - i) 0) k
 
+either : (b : Bool) (x y : ℕ) → x ≤ 1 → y ≤ 1 → pick b x y ≤ 1
+either true x y h l = h
+either false x y h l = l
+
+pub bits-d : (u : List ℕ) → Bits u → Bits (tab 182 (speechDAt u))
+unfolding speechDAt
+bits-d u bu = bits-tab 182 (speechDAt u) (λ j. either (eqb (j % 2) 0) (getD u (j / 2) 0) (getD u (184 - j / 2) 0) (bu (j / 2)) (bu (184 - j / 2)))
+
 -- ---- 50 bits and 3
 pub laid-check : (d u e x y : List ℕ) → length d ≡ 182 → length e ≡ 53 → x ≡ take 50 d → y ≡ take 3 (drop 91 u) → put 50 3 y (put 0 50 x e) ≡ take 50 d ++ take 3 (drop 91 u)
 laid-check d u e x y ld le ex ey =
@@ -74,16 +82,8 @@ module _ (c rest x v f : List ℕ) (bc : Bits c) (lc : length c ≡ 456) (ex : x
   pub long-v : length v ≡ 189
   long-v = ap length ev ∙ candidate .long
 
-  either : (b : Bool) (x y : ℕ) → x ≤ 1 → y ≤ 1 → pick b x y ≤ 1
-  either true x y h l = h
-  either false x y h l = l
-
-  bit-at : (j : ℕ) → speechDAt v j ≤ 1
-  unfolding speechDAt
-  bit-at j = either (eqb (j % 2) 0) (getD v (j / 2) 0) (getD v (184 - j / 2) 0) (bits-v (j / 2)) (bits-v (184 - j / 2))
-
   pub bits-f : Bits f
-  bits-f = subst Bits (sym ef) (bits-tab 182 (speechDAt v) bit-at)
+  bits-f = subst Bits (sym ef) (bits-d v bits-v)
 
   pub long-f : length f ≡ 182
   long-f = ap length ef ∙ length-tab 182 (speechDAt v)
