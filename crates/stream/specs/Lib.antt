@@ -1,4 +1,6 @@
 pub mod Answers
 pub mod Sending
 pub mod Receiving
+pub mod Says
+pub mod Calls
 pub mod laws

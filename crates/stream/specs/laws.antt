@@ -1,3 +1,5 @@
 pub mod Settled
 pub mod Sending
 pub mod Receiving
+pub mod Calls
+pub mod Says

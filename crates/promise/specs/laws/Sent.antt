@@ -55,11 +55,11 @@ beginning-fits (d ∷ ds) = flag-fits (isFacch (length d))
 -- ---- one call
 module _ (s : Sender) (lent : ℕ → List ℕ) (ll : Lent lent) where
   last-call : Able s 0 → endAnswer s (lent 0) ≡ record { result = record { told = Done; next = endNext s }; left = endBursts s }
-  last-call a = ends-on s (lent 0) (a .unended) (omega (arith, a .some)) (ll 0)
+  last-call a = ends-on s (lent 0) (record { writes = ll 0; unended = a .unended; some = omega (arith, a .some) })
 
   module _ (d : List ℕ) (ds : List (List ℕ)) (a : Able s (length (d ∷ ds))) (v : AllValid (d ∷ ds)) where
     call : sendAnswer s d (lent 0) ≡ record { result = record { told = Done; next = sentNext s d }; left = sentBursts s d }
-    call = sends-on s d (lent 0) (a .unended) (omega (arith, a .room)) (v 0 (omega arith) .kind) (v 0 (omega arith) .bits) (ll 0)
+    call = sends-on s d (lent 0) (record { reads = v 0 (omega arith) .kind; writes = ll 0; bits = v 0 (omega arith) .bits; unended = a .unended; room = omega (arith, a .room) })
 
     able-next : Able (sentNext s d) (length ds)
     unfolding sentNext

@@ -61,7 +61,7 @@ module _ (M : ℕ) (few : M ≤ 65536) (rx : List ℕ) (out : ℕ → List ℕ) 
           result = record { told = burstAnswer (kept (s .held) b (burstOf rx b)) b (out b) .result; next = takenNext s (burstOf rx b) };
           left = burstAnswer (kept (s .held) b (burstOf rx b)) b (out b) .left;
         }
-    taken = takes-on s b (burstOf rx b) (out b) (l .next) (omega (arith, few)) (burst-long b h) (burst-bits b) (here .lent b)
+    taken = takes-on s b (burstOf rx b) (out b) (record { reads = burst-long b h; writes = here .lent b; bits = burst-bits b; room = omega (arith, few, l .next); turn = sym (l .next) })
 
     -- the newest burst, and the seven before it
     now-holds : (a x : ℕ) → a < suc b → suc b ≤ a + 8 → x < 116 → heldBit (kept (s .held) b (burstOf rx b)) a x ≡ getD rx (116 * a + x) 0

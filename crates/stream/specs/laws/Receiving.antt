@@ -26,6 +26,7 @@ use Rattle.coder.specs.Entries.{Given}
 use Rattle.coder.specs.Received.{Hearing, blockHeard, speechHeard, reception, speechReceived, controlReceived}
 use Rattle.coder.specs.laws.Heard.{hears-good, hears-bad}
 use Rattle.parity.specs.Division.{controlG}
+use Rattle.stream.specs.Says.{Takeable}
 use Rattle.stream.specs.Receiving.{takeJudged, takeTold, vote, goodOrBad, speechOf, facchOf, byKind, blockAnswer, atEnding, burstAnswer, takenNext, afterTaking, takeAnswer}
 use Rattle.stream.specs.declared.Taken.{Taken}
 use Rattle.stream.specs.declared.Taken.the-variants as taken
@@ -137,13 +138,6 @@ done-held true true true t e = let z : _≡_ {A = ℕ} 0 1 = cc in let w : ⊥ =
 done-held true false f t e = let z : _≡_ {A = ℕ} 0 1 = cc in let w : ⊥ = omega arith in absurd w
 done-held false b f t e = let z : _≡_ {A = ℕ} 0 1 = cc in let w : ⊥ = omega arith in absurd w
 
-pub record Takeable (s : Receiver) (b : ℕ) (e d : List ℕ) : Type 0 where
-  pub reads : length e ≡ 116
-  pub writes : length d ≡ 260
-  pub bits : Bits e
-  pub room : s .next .0 < 65536
-  pub turn : b ≡ s .next .0
-
 pub take-able : (s : Receiver) (b : ℕ) (e d : List ℕ) (r : Told) → r ≡ takeTold s b e d → r ≡ told.Done → Takeable s b e d
 unfolding takeTold
 take-able s b e d r h f =
@@ -169,8 +163,8 @@ module _ (t : Told) (s : Receiver) (e d : List ℕ) (r : Told) (h : r ≡ t) whe
   refused-taking x f = rw (← h, f) (record { result = refl; left = refl })
 
 -- ---- a burst in turn is taken
-pub takes-on : (s : Receiver) (b : ℕ) (e d : List ℕ) → s .next .0 ≡ b → b < 65536 → length e ≡ 116 → Bits e → length d ≡ 260
+pub takes-on : (s : Receiver) (b : ℕ) (e d : List ℕ) → Takeable s b e d
     → takeAnswer s b e d ≡ record { result = record { told = burstAnswer (kept (s .held) b e) b d .result; next = takenNext s e }; left = burstAnswer (kept (s .held) b e) b d .left }
 unfolding takeAnswer takeTold takeJudged afterTaking
-takes-on s b e d turn room le be ld =
-    rw (turn, eq-eqb (length e) 116 le, eq-eqb (length d) 260 ld, bits-all e be, lt-leb 65536 b room, eq-eqb b b refl) refl
+takes-on s b e d a =
+    rw (a .turn, eq-eqb (length e) 116 (a .reads), eq-eqb (length d) 260 (a .writes), bits-all e (a .bits), lt-leb 65536 (s .next .0) (a .room), eq-eqb (s .next .0) (s .next .0) refl) refl

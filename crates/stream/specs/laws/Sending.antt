@@ -2,11 +2,11 @@
 use mathlib.Core.Bool.{Bool, true, false}
 use mathlib.Core.List.{List}
 use mathlib.Core.Path.{_≡_, refl, sym, ap, _∙_}
-use Prim.Native.Nat.{ℕ, _<_}
+use Prim.Native.Nat.{ℕ, zero, suc, _<_}
 use native.Mathlib.Omega.{arith}
 use lib.Dec.{eqb, leb, lit≤}
 use lib.ListN.{length}
-use borrow.Author.Tests.{eqb-true, leb-false, eq-eqb, ne-eqb, lt-leb}
+use borrow.Author.Tests.{eqb-true, eqb-false, leb-false, eq-eqb, ne-eqb, lt-leb}
 use Rattle.bits.specs.Bits.{Bits, pick, both, allBits}
 use Rattle.bits.specs.laws.Cases.{both-first, both-second}
 use Rattle.bits.specs.laws.Check.{all-bits, bits-all}
@@ -17,6 +17,7 @@ use Rattle.answers.specs.declared.Told.the-variants.{Done, Refused}
 use Rattle.coder.specs.Blocks.{speechBlock, controlBlock}
 use Rattle.coder.specs.Entries.{speechSent, controlSent}
 use Rattle.coder.specs.laws.Entries.{sends}
+use Rattle.stream.specs.Says.{Sendable, Endable}
 use Rattle.stream.specs.Sending.{isFacch, isBlock, blockOf, sendJudged, sendTold, sentBursts, sentNext, sendAnswer, endJudged, endTold, endBursts, endNext, endAnswer, afterwards}
 use Rattle.stream.specs.declared.sender.Sender.{Sender}
 use Rattle.stream.specs.declared.sender.Sent.{Sent}
@@ -44,12 +45,6 @@ done-held true true true f e = let z : _≡_ {A = ℕ} 0 1 = cc in let w : ⊥ =
 done-held true false x f e = let z : _≡_ {A = ℕ} 0 1 = cc in let w : ⊥ = omega arith in absurd w
 done-held false b x f e = let z : _≡_ {A = ℕ} 0 1 = cc in let w : ⊥ = omega arith in absurd w
 
-pub record Sendable (s : Sender) (d e : List ℕ) : Type 0 where
-  pub reads : isBlock (length d) ≡ true
-  pub writes : length e ≡ 464
-  pub bits : Bits d
-  pub room : s .sent .0 < 16383
-
 pub send-able : (s : Sender) (d e : List ℕ) (r : Told) → r ≡ sendTold s d e → r ≡ Done → Sendable s d e
 unfolding sendTold
 send-able s d e r h f =
@@ -59,17 +54,32 @@ send-able s d e r h f =
       reads = both-first (isBlock (length d)) (eqb (length e) 464) (held .lengths);
       writes = eqb-true (length e) 464 (both-second (isBlock (length d)) (eqb (length e) 464) (held .lengths));
       bits = all-bits d (held .bits);
+      unended = held .unended;
       room = leb-false 16383 (s .sent .0) (held .room);
     }
 
-end-length : (l x z : Bool) → endJudged l x z ≡ Done → l ≡ true
-unfolding endJudged
-end-length true x z e = refl
-end-length false x z e = let z : _≡_ {A = ℕ} 0 1 = cc in let w : ⊥ = omega arith in absurd w
+pub record EndHeld (l x z : Bool) : Type 0 where
+  pub lengths : l ≡ true
+  pub unended : x ≡ false
+  pub some : z ≡ false
 
-pub end-able : (s : Sender) (e : List ℕ) (r : Told) → r ≡ endTold s e → r ≡ Done → length e ≡ 464
+end-held : (l x z : Bool) → endJudged l x z ≡ Done → EndHeld l x z
+unfolding endJudged
+end-held true false false e = record { lengths = refl; unended = refl; some = refl }
+end-held true false true e = let z : _≡_ {A = ℕ} 0 1 = cc in let w : ⊥ = omega arith in absurd w
+end-held true true z e = let z : _≡_ {A = ℕ} 0 1 = cc in let w : ⊥ = omega arith in absurd w
+end-held false x z e = let z : _≡_ {A = ℕ} 0 1 = cc in let w : ⊥ = omega arith in absurd w
+
+pub end-able : (s : Sender) (e : List ℕ) (r : Told) → r ≡ endTold s e → r ≡ Done → Endable s e
 unfolding endTold
-end-able s e r h f = eqb-true (length e) 464 (end-length (eqb (length e) 464) (s .ended) (eqb (s .sent .0) 0) (sym h ∙ f))
+end-able s e r h f =
+    let held = end-held (eqb (length e) 464) (s .ended) (eqb (s .sent .0) 0) (sym h ∙ f) in
+    let more : s .sent .0 ≡ 0 → ⊥ = eqb-false (s .sent .0) 0 (held .some) in
+    record { writes = eqb-true (length e) 464 (held .lengths); unended = held .unended; some = not-zero (s .sent .0) more }
+  where
+    not-zero : (k : ℕ) → (k ≡ 0 → ⊥) → 0 < k
+    not-zero zero h = absurd (h refl)
+    not-zero (suc k) h = omega arith
 
 -- ---- the two ways in which a send or an end ends
 module _ (t : Told) (bursts : List ℕ) (next : Sender) (e : List ℕ) (s : Sender) (r : Told) (h : r ≡ t) where
@@ -101,15 +111,13 @@ module _ (d c : List ℕ) (bd : Bits d) (lc : length c ≡ 456) where
       is-speech false e = absurd (other (eqb-true (length d) 184 (sym (ap (λ (b : Bool). pick b true (isFacch (length d))) e) ∙ reads)))
 
 -- ---- a stream that is open and has room sends what may be sent, and ends where a block was sent
-pub sends-on : (s : Sender) (d e : List ℕ) → s .ended ≡ false → s .sent .0 < 16383 → isBlock (length d) ≡ true → Bits d → length e ≡ 464
-    → sendAnswer s d e ≡ record { result = record { told = Done; next = sentNext s d }; left = sentBursts s d }
+pub sends-on : (s : Sender) (d e : List ℕ) → Sendable s d e → sendAnswer s d e ≡ record { result = record { told = Done; next = sentNext s d }; left = sentBursts s d }
 unfolding sendAnswer sendTold sendJudged afterwards
-sends-on s d e unended room block bits le =
-    rw (block, eq-eqb (length e) 464 le, bits-all d bits, unended, lt-leb 16383 (s .sent .0) room) refl
+sends-on s d e a =
+    rw (a .reads, eq-eqb (length e) 464 (a .writes), bits-all d (a .bits), a .unended, lt-leb 16383 (s .sent .0) (a .room)) refl
 
-pub ends-on : (s : Sender) (e : List ℕ) → s .ended ≡ false → 0 < s .sent .0 → length e ≡ 464
-    → endAnswer s e ≡ record { result = record { told = Done; next = endNext s }; left = endBursts s }
+pub ends-on : (s : Sender) (e : List ℕ) → Endable s e → endAnswer s e ≡ record { result = record { told = Done; next = endNext s }; left = endBursts s }
 unfolding endAnswer endTold endJudged afterwards
-ends-on s e unended some le =
-    let more : s .sent .0 ≡ 0 → ⊥ = λ (z : s .sent .0 ≡ 0). omega (arith, some, z) in
-    rw (eq-eqb (length e) 464 le, unended, ne-eqb (s .sent .0) 0 more) refl
+ends-on s e a =
+    let more : s .sent .0 ≡ 0 → ⊥ = λ (z : s .sent .0 ≡ 0). omega (arith, a .some, z) in
+    rw (eq-eqb (length e) 464 (a .writes), a .unended, ne-eqb (s .sent .0) 0 more) refl

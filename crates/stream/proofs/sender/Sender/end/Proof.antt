@@ -16,7 +16,7 @@ fill-four-requires c κs =
     let s = c .before .before .before .before .before .before .before .before .before .before .args in
     let j = c .before .before .before .before .before .before .before .before .judge-end in
     let held : length (s .self .last) ≡ 456 = search needs in
-    (refl, held, end-able (s .self) (s .e .now) (j .result) (j .ensures) (c .before .before .before .before .before .before .enum-told .given .1))
+    (refl, held, end-able (s .self) (s .e .now) (j .result) (j .ensures) (c .before .before .before .before .before .before .enum-told .given .1) .writes)
 
 returns : tie.Need-returns
 unfolding endTold endBursts endNext endAnswer zeros

@@ -1,0 +1,95 @@
+-- What send, end and take answer, in 01's own numbers and values, for every value of a stream: the first refusal that applies, with nothing
+-- besides it and all as before; what a call that is done returns, writes and hands back. Proved in laws/Says.
+use mathlib.Core.Bool.{true, false}
+use mathlib.Core.List.{List, _++_}
+use mathlib.Core.Path.{_≡_}
+use Prim.Native.Nat.{ℕ, _+_, _*_, _≤_, _<_}
+use lib.ListN.{length, drop}
+use Rattle.bits.specs.Bits.{Bits, total}
+use Rattle.parity.specs.Division.{controlG}
+use Rattle.answers.specs.Answers.{Answer, returned, ofTold}
+use Rattle.answers.specs.declared.Maybe.{Maybe}
+use Rattle.answers.specs.declared.Maybe.the-variants.{None, Some}
+use Rattle.burst.specs.Held.{heldFlagAt, heldBlock}
+use Rattle.burst.specs.Ring.{kept}
+use Rattle.coder.specs.Says.{BlockDecodes, SpeechDecodes}
+use Rattle.stream.specs.Answers.{values, ofTaken}
+use Rattle.stream.specs.Receiving.{takenNext, takeAnswer}
+use Rattle.stream.specs.Sending.{isBlock, sentBursts, sentNext, sendAnswer, endBursts, endNext, endAnswer}
+use Rattle.stream.specs.declared.Kind.the-variants.{Speech, Facch, Neither}
+use Rattle.stream.specs.declared.Values.{Values}
+use Rattle.stream.specs.declared.receiver.Received.{Received}
+use Rattle.stream.specs.declared.receiver.Receiver.{Receiver}
+use Rattle.stream.specs.declared.sender.Sender.{Sender}
+use Rattle.stream.specs.declared.sender.Sent.{Sent}
+
+-- ---- send and end: the number, if one is given, and nothing besides; what the buffer then holds; the next stream
+abbrev pub SentReturns : Answer Sent → Maybe → List ℕ → Sender → Type 0
+SentReturns a number left next = (ofTold (a .result .told) ≡ returned number None) × (a .left ≡ left) × (a .result .next ≡ next)
+
+-- no refusal applies to a send: 260 or 184 bits, 464 bytes, not ended, and room
+pub record Sendable (s : Sender) (d e : List ℕ) : Type 0 where
+  pub reads : isBlock (length d) ≡ true
+  pub writes : length e ≡ 464
+  pub bits : Bits d
+  pub unended : s .ended ≡ false
+  pub room : s .sent .0 < 16383
+
+-- where several apply: 1, 2, 7, 5. Done, with no number, exactly when none applies
+pub record SendSays (s : Sender) (d e : List ℕ) : Type 0 where
+  pub one : ((isBlock (length d) ≡ true) × (length e ≡ 464) → ⊥) → SentReturns (sendAnswer s d e) (Some 1) e s
+  pub two : isBlock (length d) ≡ true → length e ≡ 464 → (Bits d → ⊥) → SentReturns (sendAnswer s d e) (Some 2) e s
+  pub seven : isBlock (length d) ≡ true → length e ≡ 464 → Bits d → s .ended ≡ true → SentReturns (sendAnswer s d e) (Some 7) e s
+  pub five : isBlock (length d) ≡ true → length e ≡ 464 → Bits d → s .ended ≡ false → 16383 ≤ s .sent .0 → SentReturns (sendAnswer s d e) (Some 5) e s
+  pub done : Sendable s d e → SentReturns (sendAnswer s d e) None (sentBursts s d) (sentNext s d)
+  pub only : ofTold (sendAnswer s d e .result .told) ≡ returned None None → Sendable s d e
+
+-- no refusal applies to an end. 01: it is allowed at 16,383 blocks, so that there is no word of them
+pub record Endable (s : Sender) (e : List ℕ) : Type 0 where
+  pub writes : length e ≡ 464
+  pub unended : s .ended ≡ false
+  pub some : 0 < s .sent .0
+
+-- where several apply: 1, 7, 6
+pub record EndSays (s : Sender) (e : List ℕ) : Type 0 where
+  pub one : (length e ≡ 464 → ⊥) → SentReturns (endAnswer s e) (Some 1) e s
+  pub seven : length e ≡ 464 → s .ended ≡ true → SentReturns (endAnswer s e) (Some 7) e s
+  pub six : length e ≡ 464 → s .ended ≡ false → s .sent .0 ≡ 0 → SentReturns (endAnswer s e) (Some 6) e s
+  pub done : Endable s e → SentReturns (endAnswer s e) None (endBursts s) (endNext s)
+  pub only : ofTold (endAnswer s e .result .told) ≡ returned None None → Endable s e
+
+-- ---- a block: by how many of its eight flags are 1, as speech or as FACCH, of its coded bits c. Four give 9 with n; a bad parity 8 with n and the
+-- count, both leave the buffer; else no number, the kind, n, the count of THE nearest block, and its bits: 260 of speech, 184 of FACCH
+pub record BlockSays (returns : Values → List ℕ → Type 0) (flags n : ℕ) (c d : List ℕ) : Type 0 where
+  pub tie : flags ≡ 4 → returns (values (Some 9) Neither (Some n) None) d
+  pub speech : flags < 4
+      → SpeechDecodes c (λ k bits. returns (values None Speech (Some n) (Some k)) bits) (λ k. returns (values (Some 8) Neither (Some n) (Some k)) d)
+  pub facch : 4 < flags
+      → BlockDecodes controlG 0 184 228 c (λ k bits. returns (values None Facch (Some n) (Some k)) (bits ++ drop 184 d)) (λ k. returns (values (Some 8) Neither (Some n) (Some k)) d)
+
+-- ---- take: the number and the values; what the buffer then holds; the next stream
+abbrev pub TakeReturns : Answer Received → Values → List ℕ → Receiver → Type 0
+TakeReturns a v left next = (ofTaken (a .result .told) ≡ v) × (a .left ≡ left) × (a .result .next ≡ next)
+
+-- no refusal but 8 and 9 applies to a take: 116 bits, 260 bytes, room, and the next burst's number
+pub record Takeable (s : Receiver) (b : ℕ) (e d : List ℕ) : Type 0 where
+  pub reads : length e ≡ 116
+  pub writes : length d ≡ 260
+  pub bits : Bits e
+  pub room : s .next .0 < 65536
+  pub turn : b ≡ s .next .0
+
+abbrev pub refuses : ℕ → Values
+refuses number = values (Some number) Neither None None
+
+-- where several apply: 1, 2, 5, 4. Otherwise, and only then, the burst is taken; 4n+7 brings block n, of the bursts that are then held, and every
+-- other none
+pub record TakeSays (s : Receiver) (b : ℕ) (e d : List ℕ) : Type 0 where
+  pub one : ((length e ≡ 116) × (length d ≡ 260) → ⊥) → TakeReturns (takeAnswer s b e d) (refuses 1) d s
+  pub two : length e ≡ 116 → length d ≡ 260 → (Bits e → ⊥) → TakeReturns (takeAnswer s b e d) (refuses 2) d s
+  pub five : length e ≡ 116 → length d ≡ 260 → Bits e → 65536 ≤ s .next .0 → TakeReturns (takeAnswer s b e d) (refuses 5) d s
+  pub four : length e ≡ 116 → length d ≡ 260 → Bits e → s .next .0 < 65536 → (b ≡ s .next .0 → ⊥) → TakeReturns (takeAnswer s b e d) (refuses 4) d s
+  pub waiting : Takeable s b e d → ((n : ℕ) → b ≡ 4 * n + 7 → ⊥) → TakeReturns (takeAnswer s b e d) (values None Neither None None) d (takenNext s e)
+  pub block : Takeable s b e d → (n : ℕ) → b ≡ 4 * n + 7
+      → BlockSays (λ v left. TakeReturns (takeAnswer s b e d) v left (takenNext s e)) (total 8 (heldFlagAt (kept (s .held) b e) n)) n (heldBlock (kept (s .held) b e) n) d
+  pub only : takeAnswer s b e d .result .next .next .0 ≡ s .next .0 + 1 → Takeable s b e d

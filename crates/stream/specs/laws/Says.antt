@@ -1,0 +1,186 @@
+-- What send, end and take answer is what Says has, for every value of a stream.
+use mathlib.Core.Bool.{Bool, true, false}
+use mathlib.Core.List.{List, _++_}
+use mathlib.Core.Path.{_≡_, refl, sym, ap, _∙_}
+use Prim.Native.Nat.{ℕ, _+_, _*_, _≤_, _<_}
+use native.Mathlib.Omega.{arith}
+use lib.Count as count
+use lib.Dec.{eqb, leb, ltb, lit≤}
+use lib.ListN.{length, take, drop}
+use borrow.Author.Tests.{eqb-true, eq-eqb, ne-eqb, le-leb, lt-leb, lt-ltb, le-ltb}
+use Rattle.bits.specs.Bits.{Bits, both, allBits, total}
+use Rattle.bits.specs.laws.Cases.{both-first, both-second, not-true}
+use Rattle.bits.specs.laws.Check.{all-bits, bits-all}
+use Rattle.answers.specs.Answers.{Answer, numberOf, returned, ofTold}
+use Rattle.answers.specs.declared.Maybe.the-variants.{None, Some}
+use Rattle.answers.specs.declared.Refusal.{Refusal}
+use Rattle.answers.specs.declared.Refusal.the-variants.{Length, NotBits, OutOfTurn, Full, NothingSent, Ended}
+use Rattle.answers.specs.declared.Told.{Told}
+use Rattle.answers.specs.declared.Told.the-variants.{Done, Refused}
+use Rattle.burst.specs.Held.{heldFlagAt, heldFlags, heldBlock}
+use Rattle.burst.specs.Numbers.{ended}
+use Rattle.burst.specs.Ring.{kept}
+use Rattle.burst.specs.declared.numbers.BlockNumber.{BlockNumber}
+use Rattle.burst.specs.declared.numbers.Ending.{Ending}
+use Rattle.burst.specs.laws.Held.{held-ones}
+use Rattle.burst.specs.laws.Numbers.{ended-block, ended-none}
+use Rattle.parity.specs.Division.{controlG, speechG}
+use Rattle.coder.specs.Received.{Hearing, blockHeard, speechHeard}
+use Rattle.coder.specs.Says.{blockWord, speechD, speechWord}
+use Rattle.coder.specs.laws.Blocks.{control-long}
+use Rattle.coder.specs.laws.Says.{told-done, block-heard, speech-heard, decodes}
+use Rattle.stream.specs.Answers.{values, ofTaken}
+use Rattle.stream.specs.Receiving.{takeJudged, takeTold, vote, goodOrBad, speechOf, facchOf, byKind, blockAnswer, atEnding, burstAnswer, takenNext, afterTaking, takeAnswer}
+use Rattle.stream.specs.Says.{SentReturns, Sendable, SendSays, Endable, EndSays, BlockSays, TakeReturns, Takeable, refuses, TakeSays}
+use Rattle.stream.specs.Sending.{isBlock, sendJudged, sendTold, sentBursts, sentNext, sendAnswer, endJudged, endTold, endBursts, endNext, endAnswer, afterwards}
+use Rattle.stream.specs.laws.Receiving.{take-able, takes-on}
+use Rattle.stream.specs.laws.Sending.{send-able, sends-on, end-able, ends-on}
+use Rattle.stream.specs.declared.Kind.{Kind}
+use Rattle.stream.specs.declared.Kind.the-variants as kind
+use Rattle.stream.specs.declared.Taken.{Taken}
+use Rattle.stream.specs.declared.Taken.the-variants as taken
+use Rattle.stream.specs.declared.Values.{Values}
+use Rattle.stream.specs.declared.receiver.Received.{Received}
+use Rattle.stream.specs.declared.receiver.Receiver.{Receiver}
+use Rattle.stream.specs.declared.sender.Sender.{Sender}
+use Rattle.stream.specs.declared.sender.Sent.{Sent}
+
+-- ---- send and end: what is told is what was judged; an answer that is this one returns this
+told-so : (t : Told) (bursts e : List ℕ) (next s : Sender) → afterwards t bursts next e s .result .told ≡ t
+unfolding afterwards
+told-so Done bursts e next s = refl
+told-so (Refused x) bursts e next s = refl
+
+returns-so : (a : Answer Sent) (t : Told) (left : List ℕ) (next : Sender) → a ≡ record { result = record { told = t; next = next }; left = left }
+    → (ofTold (a .result .told) ≡ ofTold t) × (a .left ≡ left) × (a .result .next ≡ next)
+returns-so a t left next e = (ap (λ (x : Answer Sent). ofTold (x .result .told)) e, ap (λ (x : Answer Sent). x .left) e, ap (λ (x : Answer Sent). x .result .next) e)
+
+module _ (s : Sender) (d e : List ℕ) where
+  send-refused : (x : Refusal) → sendTold s d e ≡ Refused x → SentReturns (sendAnswer s d e) (Some (numberOf x)) e s
+  unfolding sendAnswer afterwards
+  send-refused x f = returns-so (sendAnswer s d e) (Refused x) e s (ap (λ (t : Told). afterwards t (sentBursts s d) (sentNext s d) e s) f)
+
+  send-told : sendAnswer s d e .result .told ≡ sendTold s d e
+  unfolding sendAnswer
+  send-told = told-so (sendTold s d e) (sentBursts s d) e (sentNext s d) s
+
+  pub send-says : SendSays s d e
+  unfolding sendTold sendJudged
+  send-says =
+      let lengths : Bool = both (isBlock (length d)) (eqb (length e) 464) in
+      record {
+        one = λ h. send-refused Length (rw (not-true lengths (λ (f : lengths ≡ true). h (both-first (isBlock (length d)) (eqb (length e) 464) f, eqb-true (length e) 464 (both-second (isBlock (length d)) (eqb (length e) 464) f)))) refl);
+        two = λ reads writes h. send-refused NotBits (rw (reads, eq-eqb (length e) 464 writes, not-true (allBits d) (λ (f : allBits d ≡ true). h (all-bits d f))) refl);
+        seven = λ reads writes bits h. send-refused Ended (rw (reads, eq-eqb (length e) 464 writes, bits-all d bits, h) refl);
+        five = λ reads writes bits unended h. send-refused Full (rw (reads, eq-eqb (length e) 464 writes, bits-all d bits, unended, le-leb 16383 (s .sent .0) h) refl);
+        done = λ a. returns-so (sendAnswer s d e) Done (sentBursts s d) (sentNext s d) (sends-on s d e a);
+        only = λ f. send-able s d e (sendTold s d e) refl (sym send-told ∙ told-done (sendAnswer s d e .result .told) f);
+      }
+
+module _ (s : Sender) (e : List ℕ) where
+  end-refused : (x : Refusal) → endTold s e ≡ Refused x → SentReturns (endAnswer s e) (Some (numberOf x)) e s
+  unfolding endAnswer afterwards
+  end-refused x f = returns-so (endAnswer s e) (Refused x) e s (ap (λ (t : Told). afterwards t (endBursts s) (endNext s) e s) f)
+
+  end-told : endAnswer s e .result .told ≡ endTold s e
+  unfolding endAnswer
+  end-told = told-so (endTold s e) (endBursts s) e (endNext s) s
+
+  pub end-says : EndSays s e
+  unfolding endTold endJudged
+  end-says = record {
+    one = λ h. end-refused Length (rw (ne-eqb (length e) 464 h) refl);
+    seven = λ writes h. end-refused Ended (rw (eq-eqb (length e) 464 writes, h) refl);
+    six = λ writes unended h. end-refused NothingSent (rw (eq-eqb (length e) 464 writes, unended, eq-eqb (s .sent .0) 0 h) refl);
+    done = λ a. returns-so (endAnswer s e) Done (endBursts s) (endNext s) (ends-on s e a);
+    only = λ f. end-able s e (endTold s e) refl (sym end-told ∙ told-done (endAnswer s e .result .told) f);
+  }
+
+-- ---- a block, by its kind: what an answer returns is known of byKind's
+module _ (flags n : ℕ) (c d : List ℕ) (returns : Values → List ℕ → Type 0)
+    (says : (t : Taken) (left : List ℕ) → byKind (vote flags) n c d ≡ record { result = t; left = left } → returns (ofTaken t) left) where
+  few : count.ones flags < 4 → vote flags ≡ kind.Speech
+  unfolding vote
+  few h = rw (lt-ltb (count.ones flags) 4 h) refl
+
+  many : 4 < count.ones flags → vote flags ≡ kind.Facch
+  unfolding vote
+  many h = rw (le-ltb (count.ones flags) 4 (omega (arith, h)), lt-ltb 4 (count.ones flags) h) refl
+
+  as-many : count.ones flags ≡ 4 → vote flags ≡ kind.Neither
+  unfolding vote
+  as-many h = rw (le-ltb (count.ones flags) 4 (omega (arith, h)), le-ltb 4 (count.ones flags) (omega (arith, h))) refl
+
+  pub block-says : (m : ℕ) → count.ones flags ≡ m → BlockSays returns m n c d
+  unfolding byKind speechOf facchOf goodOrBad
+  block-says m em =
+      let of-kind : Kind → Answer Taken = λ (k : Kind). byKind k n c d in
+      let speech : Hearing = speechHeard c in
+      let facch : Hearing = blockHeard controlG 0 184 c in
+      let number : BlockNumber = record { 0 = n } in
+      record {
+        tie = λ h. says (taken.Tie number) d (ap of-kind (as-many (em ∙ h)));
+        speech = λ h.
+            let k = few (omega (arith, em, h)) in
+            decodes speech (take 378 c) 189 speechG speechWord (λ u. speechD u ++ drop 378 c) (speech-heard c)
+            (λ x bits. returns (values None kind.Speech (Some n) (Some x)) bits) (λ x. returns (values (Some 8) kind.Neither (Some n) (Some x)) d)
+            (λ good. says (taken.Speech number (speech .count)) (speech .bits) (ap of-kind k ∙ rw good refl))
+            (λ bad. says (taken.Bad number (speech .count)) d (ap of-kind k ∙ rw bad refl));
+        facch = λ h.
+            let k = many (omega (arith, em, h)) in
+            decodes facch c 228 controlG (blockWord controlG 0 184) (take 184) (block-heard controlG 0 184 228 c (omega (arith, control-long)) (lit≤ tt))
+            (λ x bits. returns (values None kind.Facch (Some n) (Some x)) (bits ++ drop 184 d)) (λ x. returns (values (Some 8) kind.Neither (Some n) (Some x)) d)
+            (λ good. says (taken.Facch number (facch .count)) (facch .bits ++ drop 184 d) (ap of-kind k ∙ rw good refl))
+            (λ bad. says (taken.Bad number (facch .count)) d (ap of-kind k ∙ rw bad refl));
+      }
+
+-- ---- take
+module _ (s : Receiver) (b : ℕ) (e d : List ℕ) where
+  take-so : (t : Taken) (left : List ℕ) (next : Receiver) → takeAnswer s b e d ≡ record { result = record { told = t; next = next }; left = left }
+      → TakeReturns (takeAnswer s b e d) (ofTaken t) left next
+  take-so t left next f =
+      (ap (λ (x : Answer Received). ofTaken (x .result .told)) f, ap (λ (x : Answer Received). x .left) f, ap (λ (x : Answer Received). x .result .next) f)
+
+  take-refused : (x : Refusal) → takeTold s b e d ≡ Refused x → TakeReturns (takeAnswer s b e d) (refuses (numberOf x)) d s
+  unfolding takeAnswer afterTaking
+  take-refused x f = take-so (taken.Refused x) d s (ap (λ (t : Told). afterTaking t s e d) f)
+
+  abbrev held : List ℕ
+  held = kept (s .held) b e
+
+  -- a burst that is taken, by what it brings
+  brings : Takeable s b e d → (t : Taken) (left : List ℕ) → burstAnswer held b d ≡ record { result = t; left = left }
+      → TakeReturns (takeAnswer s b e d) (ofTaken t) left (takenNext s e)
+  brings a t left f =
+      take-so t left (takenNext s e) (takes-on s b e d a ∙ ap (λ (x : Answer Taken). record { result = record { told = x .result; next = takenNext s e }; left = x .left }) f)
+
+  waits : ((n : ℕ) → b ≡ 4 * n + 7 → ⊥) → burstAnswer held b d ≡ record { result = taken.Waiting; left = d }
+  unfolding burstAnswer atEnding
+  waits other = ap (λ (x : Ending). atEnding x held d) (ended-none b other)
+
+  brought : (n : ℕ) → b ≡ 4 * n + 7 → burstAnswer held b d ≡ byKind (vote (heldFlags held n)) n (heldBlock held n) d
+  unfolding burstAnswer atEnding blockAnswer
+  brought n is = ap (λ (x : Ending). atEnding x held d) (ap ended is ∙ ended-block n)
+
+  taken-only : (t : Told) → afterTaking t s e d .result .next .next .0 ≡ s .next .0 + 1 → t ≡ Done
+  unfolding afterTaking
+  taken-only Done f = refl
+  taken-only (Refused x) f = let w : ⊥ = omega (arith, f) in absurd w
+
+  next-only : takeAnswer s b e d .result .next .next .0 ≡ s .next .0 + 1 → takeTold s b e d ≡ Done
+  unfolding takeAnswer
+  next-only f = taken-only (takeTold s b e d) f
+
+  pub take-says : TakeSays s b e d
+  unfolding takeTold takeJudged
+  take-says =
+      let lengths : Bool = both (eqb (length e) 116) (eqb (length d) 260) in
+      record {
+        one = λ h. take-refused Length (rw (not-true lengths (λ (f : lengths ≡ true). h (eqb-true (length e) 116 (both-first (eqb (length e) 116) (eqb (length d) 260) f), eqb-true (length d) 260 (both-second (eqb (length e) 116) (eqb (length d) 260) f)))) refl);
+        two = λ reads writes h. take-refused NotBits (rw (eq-eqb (length e) 116 reads, eq-eqb (length d) 260 writes, not-true (allBits e) (λ (f : allBits e ≡ true). h (all-bits e f))) refl);
+        five = λ reads writes bits h. take-refused Full (rw (eq-eqb (length e) 116 reads, eq-eqb (length d) 260 writes, bits-all e bits, le-leb 65536 (s .next .0) h) refl);
+        four = λ reads writes bits room h. take-refused OutOfTurn (rw (eq-eqb (length e) 116 reads, eq-eqb (length d) 260 writes, bits-all e bits, lt-leb 65536 (s .next .0) room, ne-eqb b (s .next .0) h) refl);
+        waiting = λ a other. brings a taken.Waiting d (waits other);
+        block = λ a n is. block-says (heldFlags held n) n (heldBlock held n) d (λ v left. TakeReturns (takeAnswer s b e d) v left (takenNext s e)) (λ t left f. brings a t left (brought n is ∙ f)) (total 8 (heldFlagAt held n)) (held-ones held n);
+        only = λ f. take-able s b e d (takeTold s b e d) refl (next-only f);
+      }
