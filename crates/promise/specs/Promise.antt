@@ -7,12 +7,13 @@ use Prim.Native.Nat.{ℕ, zero, suc, _+_, _*_, _/_, _%_, _≤_, _<_}
 use lib.Dec.{ltb}
 use lib.ListN.{length, getD, take, drop}
 use Rattle.answers.specs.Answers.{Answer, Meets, returned, ofTold}
-use Rattle.bits.specs.Bits.{Bits, pick, tab, value}
+use Rattle.bits.specs.Bits.{Bits, pick, tab, value, total}
 use Rattle.burst.specs.Numbers.{firstBurst}
 use Rattle.places.specs.Places.{eAt, placeAt, hl, hu}
 use Rattle.trellis.specs.Nearest.{disagreements}
 use Rattle.stream.specs.Answers.{values, ofTaken}
 use Rattle.stream.specs.Receiving.{vote, byKind, freshReceiver, takeAnswer}
+use Rattle.stream.specs.Says.{BlockSays}
 use Rattle.stream.specs.Sending.{isFacch, isBlock, freshSender, sendAnswer, endAnswer}
 use Rattle.stream.specs.declared.Taken.{Taken}
 use Rattle.stream.specs.declared.Taken.the-variants.{Waiting}
@@ -134,6 +135,14 @@ Locality =
     (M : ℕ) → M ≤ 65536 → (rx : List ℕ) (out : ℕ → List ℕ) → Arrives M rx out
     → ((n : ℕ) → 4 * n + 7 < M → Answers rx out (4 * n + 7) (answerFor rx n (out (4 * n + 7))))
     × ((b : ℕ) → b < M → ((n : ℕ) → b ≡ 4 * n + 7 → ⊥) → Answers rx out b (record { result = Waiting; left = out b }))
+
+-- DEMAND 2 IN STREAMS: whatever arrives, burst 4n+7 is answered by how many of block n's own flags are 1, and as that kind by THE nearest block of
+-- its own 456 bits, in 01's numbers and values
+abbrev pub StreamNearest : Type 0
+StreamNearest =
+    (M : ℕ) → M ≤ 65536 → (rx : List ℕ) (out : ℕ → List ℕ) → Arrives M rx out → (n : ℕ) → 4 * n + 7 < M
+    → BlockSays (λ v left. (ofTaken (takenAt rx out (4 * n + 7) .result .told) ≡ v) × (takenAt rx out (4 * n + 7) .left ≡ left))
+    (total 8 (λ i. getD (blockFlags rx n) i 0)) n (blockBits rx n) (out (4 * n + 7))
 
 -- a bad burst B costs the two blocks B/4 and B/4 - 1, and never a third: where two receptions differ in burst B alone, every other block's
 -- answer is the same

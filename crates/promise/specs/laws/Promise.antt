@@ -25,18 +25,31 @@ use Rattle.coder.specs.laws.Hearings.{control-hearing, speech-hearing}
 use Rattle.trellis.specs.Nearest.{differ, disagreements}
 use Rattle.stream.specs.Answers.{ofTaken}
 use Rattle.stream.specs.Receiving.{vote, byKind, speechOf, facchOf, goodOrBad}
+use Rattle.stream.specs.laws.Says.{block-says}
 use Rattle.stream.specs.Sending.{isFacch, isBlock, blockOf, flagOf, freshSender}
 use Rattle.stream.specs.declared.Taken.{Taken}
 use Rattle.stream.specs.declared.Taken.the-variants.{Speech, Facch}
 use Rattle.stream.specs.declared.Kind.{Kind}
 use Rattle.stream.specs.declared.Kind.the-variants as kind
 use Rattle.stream.specs.declared.receiver.Received.{Received}
-use Rattle.promise.specs.Promise.{Valid, Lesson, made, blockBits, blockFlags, protected, bitsAltered, flagsAltered, kindOf, bitsOut, takenAt, Brings, Answers, answerFor, StreamPromise, BurstsMade, IdleHalves, Locality, NeverAThird}
+use Rattle.promise.specs.Promise.{Valid, Lesson, made, blockBits, blockFlags, protected, bitsAltered, flagsAltered, kindOf, bitsOut, takenAt, Brings, Answers, answerFor, StreamPromise, BurstsMade, IdleHalves, Locality, StreamNearest, NeverAThird}
 use Rattle.promise.specs.laws.Sent.{fresh-able, sent-bit, sent-flag, all-done, first-idle, last-idle}
 use Rattle.promise.specs.laws.Taken.{flag-in, brings-block, brings-nothing}
 
 pub locality : Locality
 locality M few rx out here = (brings-block M few rx out here, brings-nothing M few rx out here)
+
+pub stream-nearest : StreamNearest
+unfolding answerFor blockFlags firstBurst
+stream-nearest M few rx out here n h =
+    let met = brings-block M few rx out here n h in
+    let flag : ℕ → ℕ = λ (i : ℕ). getD rx (116 * (4 * n + i) + pick (ltb i 4) hu hl) 0 in
+    let counted : ones (value (tab 8 flag)) ≡ total 8 (λ i. getD (tab 8 flag) i 0) =
+    ones-of-flags flag (λ i. here .bits (116 * (4 * n + i) + pick (ltb i 4) hu hl)) 8 ∙ total-same 8 flag (λ i. getD (tab 8 flag) i 0) (λ i l. sym (at-tab 8 flag i l)) in
+    block-says (value (tab 8 flag)) n (blockBits rx n) (out (4 * n + 7))
+    (λ v left. (ofTaken (takenAt rx out (4 * n + 7) .result .told) ≡ v) × (takenAt rx out (4 * n + 7) .left ≡ left))
+    (λ t left e. (ap ofTaken (met .result ∙ ap (λ (a : Answer Taken). a .result) e), met .left ∙ ap (λ (a : Answer Taken). a .left) e))
+    (total 8 (λ i. getD (tab 8 flag) i 0)) counted
 
 pub bursts-made : BurstsMade
 unfolding made
