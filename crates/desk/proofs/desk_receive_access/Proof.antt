@@ -6,7 +6,7 @@ use Rattle.desk.proofs.desk_receive_access.Statement.{statement}
 use Rattle.desk.proofs.desk_receive_access.Tie as tie
 
 returns : tie.Need-returns
-returns c = in-one-number ofHeard _ _ _ _ (c .of-heard .ensures) (c .before .before .before .receive-access .ensures)
+returns c = in-one-number ofHeard _ _ _ _ _ (c .one-number .ensures) (c .before .of-heard .ensures) (c .before .before .before .before .receive-access .ensures)
 
 pub desk-receive-access-spec : {M : Type 1} → statement M
-desk-receive-access-spec = tie.close (tie.spec (λ c κs. search needs) (λ c κs. search needs) (λ c. search needs) returns)
+desk-receive-access-spec = tie.close (tie.spec (λ c κs. search needs) (λ c κs. search needs) (λ c κs. search needs) (λ c. search needs) returns)

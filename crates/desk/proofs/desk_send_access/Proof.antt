@@ -6,7 +6,7 @@ use Rattle.desk.proofs.desk_send_access.Statement.{statement}
 use Rattle.desk.proofs.desk_send_access.Tie as tie
 
 returns : tie.Need-returns
-returns c = in-one-number ofTold _ _ _ _ (c .of-told .ensures) (c .before .before .before .send-access .ensures)
+returns c = in-one-number ofTold _ _ _ _ _ (c .one-number .ensures) (c .before .of-told .ensures) (c .before .before .before .before .send-access .ensures)
 
 pub desk-send-access-spec : {M : Type 1} → statement M
-desk-send-access-spec = tie.close (tie.spec (λ c κs. search needs) (λ c κs. search needs) (λ c. search needs) returns)
+desk-send-access-spec = tie.close (tie.spec (λ c κs. search needs) (λ c κs. search needs) (λ c κs. search needs) (λ c. search needs) returns)

@@ -6,7 +6,7 @@ use Rattle.desk.proofs.desk_send_control.Statement.{statement}
 use Rattle.desk.proofs.desk_send_control.Tie as tie
 
 returns : tie.Need-returns
-returns c = in-one-number ofTold _ _ _ _ (c .of-told .ensures) (c .before .before .before .send-control .ensures)
+returns c = in-one-number ofTold _ _ _ _ _ (c .one-number .ensures) (c .before .of-told .ensures) (c .before .before .before .before .send-control .ensures)
 
 pub desk-send-control-spec : {M : Type 1} → statement M
-desk-send-control-spec = tie.close (tie.spec (λ c κs. search needs) (λ c κs. search needs) (λ c. search needs) returns)
+desk-send-control-spec = tie.close (tie.spec (λ c κs. search needs) (λ c κs. search needs) (λ c κs. search needs) (λ c. search needs) returns)

@@ -9,12 +9,13 @@ use lib.ListN.{length}
 use Rattle.bits.specs.Bits.{allBits}
 use Rattle.parity.specs.Division.{accessG, controlG}
 use Rattle.trellis.specs.laws.Nearest.{count-fits}
-use Rattle.answers.specs.Answers.{Answer, Meets, Returned, numberOf, ofTold, ofHeard, hears}
+use Rattle.answers.specs.Answers.{Answer, Meets, ofTold, ofHeard, hears}
 use Rattle.answers.specs.declared.Heard.{Heard}
 use Rattle.answers.specs.declared.Heard.the-variants.{Good, Bad}
 use Rattle.answers.specs.declared.Heard.the-variants as heard
 use Rattle.answers.specs.declared.Refusal.{Refusal}
 use Rattle.answers.specs.declared.Refusal.the-variants.{Parity}
+use Rattle.answers.specs.declared.Returned.{Returned}
 use Rattle.answers.specs.declared.Told.{Told}
 use Rattle.answers.specs.declared.Told.the-variants.{Done}
 use Rattle.answers.specs.declared.Told.the-variants as told
@@ -46,30 +47,10 @@ module _ (r : Returned) (h : orNone (r .count) ≤ 65535) where
   unfolding oneNumber
   lower-half = omega arith
 
--- ---- the cases, as the code tells them apart
-pub one-good : (h : Heard) (k : ℕ) → h ≡ Good k → k ≡ oneNumber (ofHeard h)
-unfolding oneNumber
-one-good h k e = rw e (omega arith)
-
-pub one-refused : (h : Heard) (why : Refusal) (n : ℕ) → h ≡ heard.Refused why → n ≡ numberOf why → 65536 * n ≡ oneNumber (ofHeard h)
-unfolding oneNumber
-one-refused h why n e f = rw (e, f) (omega arith)
-
-pub one-bad : (h : Heard) (k n : ℕ) → h ≡ Bad k → n ≡ numberOf Parity → 65536 * n + k ≡ oneNumber (ofHeard h)
-unfolding oneNumber
-one-bad h k n e f = rw (e, f) refl
-
-pub one-done : (t : Told) → t ≡ Done → 0 ≡ oneNumber (ofTold t)
-unfolding oneNumber
-one-done t e = rw e refl
-
-pub one-not-sent : (t : Told) (why : Refusal) (n : ℕ) → t ≡ told.Refused why → n ≡ numberOf why → 65536 * n ≡ oneNumber (ofTold t)
-unfolding oneNumber
-one-not-sent t why n e f = rw (e, f) (omega arith)
-
 -- ---- the same answer in one number
-pub in-one-number : {A : Type 0} (of : A → Returned) (a : Answer A) (r : A) (n : ℕ) (after : List ℕ) → n ≡ oneNumber (of r) → Meets a r after → Meets (inOneNumber of a) n after
-in-one-number {A} of a r n after e m = record { result = e ∙ ap (λ (x : A). oneNumber (of x)) (m .result); left = m .left }
+pub in-one-number : {A : Type 0} (of : A → Returned) (a : Answer A) (r : A) (x : Returned) (n : ℕ) (after : List ℕ)
+    → n ≡ oneNumber x → x ≡ of r → Meets a r after → Meets (inOneNumber of a) n after
+in-one-number {A} of a r x n after e f m = record { result = e ∙ ap oneNumber f ∙ ap (λ (y : A). oneNumber (of y)) (m .result); left = m .left }
 
 -- ---- every count fits the lower half
 told-fits : (h : Hearing) → h .count ≤ 65535 → (b : Bool) → h .good ≡ b → orNone (ofHeard (verdict h) .count) ≤ 65535
