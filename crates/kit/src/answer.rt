@@ -1,19 +1,23 @@
 // The answer to a line: a word, numbers and bits, any of which may be missing.
-use answers::Heard;
-use answers::Refusal;
-use answers::Told;
+use answers::Maybe;
+use answers::Returned;
 use coder::View;
-use stream::Taken;
+use stream::Kind;
+use stream::Values;
 
-// The word is filled up with spaces. The first `count` of the numbers are said, and the first `bits` of the bytes that were written.
+// The word is filled up with spaces. The first `count` of the numbers are said, and the first `bits` of the bytes that were written; where the
+// line lent the buffer itself, all of it is said, and that there is none.
 pub struct Answer {
     pub word: [u8; 8],
     pub numbers: [u16; 16],
     pub count: usize,
     pub bits: usize,
+    pub lent: bool,
 }
 
 const NO_WORD: [u8; 8] = *b"        ";
+
+const REFUSED: [u8; 8] = *b"refused ";
 
 impl Answer {
     // A word alone.
@@ -23,6 +27,7 @@ impl Answer {
             numbers: [0; 16],
             count: 0,
             bits: 0,
+            lent: false,
         }
     }
 
@@ -41,24 +46,21 @@ impl Answer {
         self
     }
 
-    fn refused(why: Refusal) -> Self {
-        Self::new(*b"refused ").with_number(answers::number(why) as u16)
-    }
-
-    // The bits that are sent, or the refusal.
-    pub fn of_told(told: Told, bits: usize) -> Self {
-        match told {
-            Told::Done => Self::new(NO_WORD).with_bits(bits),
-            Told::Refused(why) => Self::refused(why),
+    // A number that is returned.
+    fn with(self, returned: Maybe) -> Self {
+        match returned {
+            Maybe::None => self,
+            Maybe::Some(number) => self.with_number(number),
         }
     }
 
-    // The count and the bits, or the refusal; a bad parity has its count too.
-    pub fn of_heard(heard: Heard, bits: usize) -> Self {
-        match heard {
-            Heard::Good(count) => Self::new(NO_WORD).with_number(count).with_bits(bits),
-            Heard::Refused(why) => Self::refused(why),
-            Heard::Bad(count) => Self::refused(Refusal::Parity).with_number(count),
+    // What is returned of a send or of a block that is received: the count and the bits, or the refusal and what is returned besides.
+    pub fn of_returned(returned: Returned, bits: usize) -> Self {
+        let number = returned.number;
+        let count = returned.count;
+        match number {
+            Maybe::None => Self::new(NO_WORD).with(count).with_bits(bits),
+            Maybe::Some(number) => Self::new(REFUSED).with_number(number).with(count),
         }
     }
 
@@ -66,35 +68,53 @@ impl Answer {
     pub fn of_view(view: View) -> Self {
         let told = view.told;
         let row = view.row;
-        match told {
-            Told::Done => Self {
+        let returned = answers::of_told(told);
+        let number = returned.number;
+        match number {
+            Maybe::None => Self {
                 word: NO_WORD,
                 numbers: row,
                 count: 16,
                 bits: 0,
+                lent: false,
             },
-            Told::Refused(why) => Self::refused(why),
+            Maybe::Some(number) => Self::new(REFUSED).with_number(number),
         }
     }
 
-    // The number of the block that a burst brought, its count and its bits, 260 of speech or 184 of FACCH; or that there is none yet; or the refusal.
-    pub fn of_taken(taken: Taken) -> Self {
-        match taken {
-            Taken::Waiting => Self::new(*b"waiting "),
-            Taken::Speech(block, count) => Self::of_block(*b"speech  ", block.0, count, 260),
-            Taken::Facch(block, count) => Self::of_block(*b"facch   ", block.0, count, 184),
-            Taken::Refused(why) => Self::refused(why),
-            Taken::Bad(block, count) => Self::refused(Refusal::Parity)
-                .with_number(block.0)
-                .with_number(count),
-            Taken::Tie(block) => Self::refused(Refusal::Flags).with_number(block.0),
+    // What is returned of a take: the kind, the block's number, the count and the bits; or that there is no block yet; or the refusal and what is
+    // returned besides.
+    pub fn of_values(values: Values) -> Self {
+        let number = values.number;
+        let kind = values.kind;
+        let block = values.block;
+        let count = values.count;
+        match number {
+            Maybe::None => Self::of_kind(kind).with(block).with(count),
+            Maybe::Some(number) => Self::new(REFUSED)
+                .with_number(number)
+                .with(block)
+                .with(count),
         }
     }
 
-    fn of_block(kind: [u8; 8], block: u16, count: u16, bits: usize) -> Self {
-        Self::new(kind)
-            .with_number(block)
-            .with_number(count)
-            .with_bits(bits)
+    // 260 bits of speech, 184 of FACCH.
+    fn of_kind(kind: Kind) -> Self {
+        match kind {
+            Kind::Speech => Self::new(*b"speech  ").with_bits(260),
+            Kind::Facch => Self::new(*b"facch   ").with_bits(184),
+            Kind::Neither => Self::new(*b"waiting "),
+        }
+    }
+
+    // The same where the line lent n bytes: what had bits alone is done, and all bytes are said.
+    pub fn with_lent(mut self, n: usize) -> Self {
+        if self.count == 0 && self.bits > 0 {
+            let word = *b"done    ";
+            self.word = word;
+        }
+        self.bits = n;
+        self.lent = true;
+        self
     }
 }

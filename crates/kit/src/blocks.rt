@@ -9,7 +9,7 @@ pub fn send(channel: Channel, number: u16, d: &[u8], coded: &mut [u8]) -> Told {
         Channel::Speech => coder::send_speech(d, coded),
         Channel::Control => coder::send_control(d, coded),
         Channel::Sacch => coder::send_sacch(d, coded),
-        Channel::Access => coder::send_access(identity(number), d, coded),
+        Channel::Access => coder::send_access(number as u64, d, coded),
         Channel::Sch => coder::send_sch(d, coded),
     }
 }
@@ -20,12 +20,7 @@ pub fn receive(channel: Channel, number: u16, received: &[u8], d: &mut [u8]) -> 
         Channel::Speech => coder::receive_speech(received, d),
         Channel::Control => coder::receive_control(received, d),
         Channel::Sacch => coder::receive_sacch(received, d),
-        Channel::Access => coder::receive_access(identity(number), received, d),
+        Channel::Access => coder::receive_access(number as u64, received, d),
         Channel::Sch => coder::receive_sch(received, d),
     }
-}
-
-// An identity over 63 is refused, so one that no byte holds may as well be 255.
-fn identity(number: u16) -> u8 {
-    if number > 255 { 255 } else { number as u8 }
 }

@@ -30,6 +30,14 @@ pub fn field(line: &[u8], k: usize) -> &[u8]
     &line[start..end]
 }
 
+// What stands from field k on; where there is none, nothing.
+pub fn rest_of(line: &[u8], k: usize) -> &[u8]
+    ensures { λ r. ⌜ length (now r) ≤ length (now (line .entry)) ⌝ }
+{
+    let start = start_of(line, k);
+    &line[start..]
+}
+
 // The place after k spaces, or the line's end.
 fn start_of(line: &[u8], k: usize) -> usize
     ensures { λ r. ⌜ r ≤ length (now (line .entry)) ⌝ }

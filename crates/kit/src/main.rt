@@ -45,8 +45,8 @@ fn answer_all(chunk: &mut [u8], line: &mut [u8]) {
 
 // Writes the answer to a line; what comes back is the streams after it.
 fn write_answer(streams: Streams, line: &[u8]) -> Streams {
-    // as long as the longest that is written for a verb
-    let mut written = [0u8; 464];
+    // as long as the longest that a line may lend
+    let mut written = [0u8; 600];
     let said = reply(streams, line, &mut written);
     let answer = said.answer;
     let mut out = [0u8; 1001];

@@ -59,7 +59,7 @@ fn after(streams: Streams, sent: Sent, bits: usize) -> Said {
     let sender = sent.next;
     let receiver = streams.receiver;
     Said {
-        answer: Answer::of_told(told, bits),
+        answer: Answer::of_returned(answers::of_told(told), bits),
         streams: Streams { sender, receiver },
     }
 }
@@ -72,7 +72,7 @@ fn take(streams: Streams, number: u16, e: &[u8], d: &mut [u8]) -> Said {
     let taken = received.told;
     let receiver = received.next;
     Said {
-        answer: Answer::of_taken(taken),
+        answer: Answer::of_values(stream::of_taken(taken)),
         streams: Streams { sender, receiver },
     }
 }

@@ -21,12 +21,12 @@ returns-4 : tie.Need-returns-4
 returns-4 c = ap (λ (x : Maybe). values x Neither None None) (c .given .ensures) ∙ ap ofTaken (sym (c .before .before .taken3 .given .1))
 
 returns-5 : tie.Need-returns-5
-returns-5 c = 
+returns-5 c =
     let g = c .before .before .taken4 .given in
     ap (λ (x : Maybe). values x Neither (Some (g .0 .0 .0)) (Some (g .0 .1 .0))) (c .given2 .ensures) ∙ ap ofTaken (sym (g .1))
 
 returns-6 : tie.Need-returns-6
-returns-6 c = 
+returns-6 c =
     let g = c .before .before .taken5 .given in
     ap (λ (x : Maybe). values x Neither (Some (g .0 .0 .0)) None) (c .given3 .ensures) ∙ ap ofTaken (sym (g .1))
 
