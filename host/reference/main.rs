@@ -4,6 +4,7 @@
 //!
 //! reference answer                     reads kit lines, prints the answers
 //! reference sheet                      reads access sheet lines, prints the answers
+//! reference examples                   prints the values of the table of examples, a row a line
 //! reference make-lines SEED COUNT      prints COUNT kit lines that send
 //! reference make-received SEED COUNT   prints COUNT kit lines that receive
 //! reference make-views SEED COUNT      prints COUNT kit lines for the trellis view
@@ -15,12 +16,13 @@
 //! What the papers define stands in model/, what chance gives in chance/, what makes lines in
 //! makers/. A channel is a row of the table in model/channel.rs, and its formulas stand in
 //! model/coding.rs and model/receiving.rs; a refusal is a row of model/refusal.rs, a verb a row in
-//! kit.rs, a mode that makes lines a row of makers/mod.rs.
+//! kit.rs, an example a row in examples.rs, a mode that makes lines a row of makers/mod.rs.
 
 // Loops keep the index k of the standard, so that each reads like its formula.
 #![allow(clippy::needless_range_loop, clippy::manual_memcpy)]
 
 mod chance;
+mod examples;
 mod kit;
 mod makers;
 mod model;
@@ -37,6 +39,7 @@ use std::process::ExitCode;
 enum Task {
     Answer,
     Sheet,
+    Examples,
     /// The seed and the count of lines to be made.
     Make(&'static Maker, u64, usize),
 }
@@ -45,7 +48,7 @@ enum Task {
 fn usage() -> String {
     let making = |maker: &Maker| format!(" | {} {}", maker.mode, maker.numbers);
     let makers: String = MAKERS.iter().map(making).collect();
-    format!("usage: reference answer | sheet{}", makers)
+    format!("usage: reference answer | sheet | examples{}", makers)
 }
 
 /// The task that the arguments name; nothing if they name none.
@@ -54,6 +57,7 @@ fn task(arguments: &[String]) -> Option<Task> {
     match words.as_slice() {
         ["answer"] => Some(Task::Answer),
         ["sheet"] => Some(Task::Sheet),
+        ["examples"] => Some(Task::Examples),
         [mode, numbers @ ..] => making(mode, numbers),
         [] => None,
     }
@@ -88,6 +92,7 @@ fn run(task: Task) -> Result<()> {
             page::answers(&standard_input()?, |line| kit.answer(line))
         }
         Task::Sheet => page::answers(&standard_input()?, sheet::answer),
+        Task::Examples => page::of_lines(&examples::lines()),
         Task::Make(maker, seed, count) => maker.page(seed, count),
     };
     let mut paper = std::io::stdout();
@@ -133,9 +138,10 @@ mod tests {
     }
 
     #[test]
-    fn the_nine_commands_are_known() {
+    fn the_ten_commands_are_known() {
         assert!(matches!(task_of("answer"), Some(Task::Answer)));
         assert!(matches!(task_of("sheet"), Some(Task::Sheet)));
+        assert!(matches!(task_of("examples"), Some(Task::Examples)));
         makes("make-lines 7 100", "make-lines", 7, 100);
         makes("make-received 9 300", "make-received", 9, 300);
         makes("make-views 6 400", "make-views", 6, 400);
@@ -147,7 +153,7 @@ mod tests {
 
     #[test]
     fn the_usage_names_them() {
-        let words = "usage: reference answer | sheet | make-lines SEED COUNT | \
+        let words = "usage: reference answer | sheet | examples | make-lines SEED COUNT | \
             make-received SEED COUNT | make-views SEED COUNT | make-lessons SEED COUNT | \
             make-stream SEED BLOCKS | make-full SEED | make-sheet SEED COUNT";
         assert_eq!(usage(), words);
@@ -158,6 +164,7 @@ mod tests {
         for command in [
             "",
             "answer 1",
+            "examples 1",
             "make-lines",
             "make-lines 7",
             "make-lines x 5",

@@ -11,13 +11,19 @@ fn lines_of(page: &[u8]) -> Vec<&[u8]> {
 }
 
 /// The answers to a page, one line for each of its lines.
-pub fn answers(page: &[u8], mut answer: impl FnMut(&[u8]) -> String) -> Vec<u8> {
-    let mut answers = Vec::new();
-    for line in lines_of(page) {
-        answers.extend(answer(line).as_bytes());
-        answers.push(10);
+pub fn answers(page: &[u8], answer: impl FnMut(&[u8]) -> String) -> Vec<u8> {
+    let answers: Vec<String> = lines_of(page).into_iter().map(answer).collect();
+    of_lines(&answers)
+}
+
+/// The page of these lines, each with its newline.
+pub fn of_lines(lines: &[String]) -> Vec<u8> {
+    let mut page = Vec::new();
+    for line in lines {
+        page.extend(line.as_bytes());
+        page.push(10);
     }
-    answers
+    page
 }
 
 #[cfg(test)]
@@ -41,6 +47,12 @@ mod tests {
         assert_eq!(lines_of(b"a\nb\n"), [b"a", b"b"]);
         assert_eq!(lines_of(b"a\nb"), [b"a", b"b"]);
         assert_eq!(lines_of(b"a"), [b"a"]);
+    }
+
+    #[test]
+    fn lines_make_a_page() {
+        assert_eq!(of_lines(&["a".to_string(), String::new()]), b"a\n\n");
+        assert!(of_lines(&[]).is_empty());
     }
 
     #[test]

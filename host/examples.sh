@@ -1,0 +1,20 @@
+# The table of examples in the definitions, laid beside what the reference works out. Sourced, by POSIX sh.
+
+table=crates/promise/specs/Examples.antt
+
+# A list as the reference prints it: 1 ∷ 0 ∷ [] is 1 0.
+in_numbers() { sed -e 's/ ∷ \[\]$//' -e 's/ ∷ / /g'; }
+
+# What the rows say, in their order: the last list of each.
+said() { sed -n 's/^ *\(∷ \)\{0,1\}is .* (\([^()]*\))$/\2/p' "$table" | in_numbers; }
+
+# The received bits of a row, which have a name of their own.
+received() { sed -n "s/^$1 = //p" "$table" | in_numbers; } # NAME
+
+# The rows as the reference prints them: the tenth and the eleventh begin with the received bits.
+examples_in_table() { said | sed -e "10s/^/$(received tied) /" -e "11s/^/$(received fourAway) /"; }
+
+# The table has all that the reference works out, and nothing else.
+examples_as_worked_out() { # REFERENCE ROOM
+    "$1" examples >"$2/worked-out" && examples_in_table >"$2/in-table" && [ -s "$2/worked-out" ] && cmp "$2/in-table" "$2/worked-out"
+}

@@ -1,0 +1,234 @@
+//! The values of the table of examples, each worked out by the model: one line for each row.
+
+use crate::model::bits::{bits_of, ones, ones_at};
+use crate::model::channel::{Channel, ACCESS, CONTROL, NO_IDENTITY, SCH, SPEECH};
+use crate::model::decoding::nearest;
+use crate::model::exhaustive::Pairs;
+use crate::model::polynomial::parity;
+use crate::model::sending_stream::sent_and_ended;
+
+/// The lines, their numbers parted by single spaces.
+pub fn lines() -> Vec<String> {
+    rows().iter().map(|row| line(row)).collect()
+}
+
+/// Numbers parted by single spaces.
+fn line(numbers: &[usize]) -> String {
+    let words: Vec<String> = numbers.iter().map(|number| number.to_string()).collect();
+    words.join(" ")
+}
+
+/// The rows in the order of the table.
+fn rows() -> Vec<Vec<usize>> {
+    let mut rows = vec![
+        parity_of_mixed(&CONTROL),
+        parity_of_mixed(&SCH),
+        numbers(&sent(&ACCESS, 13, &mixed(8))),
+    ];
+    // d(49) is the last bit under the parity, d(181) the last that is protected.
+    rows.extend([1, 2, 49, 50, 181, 182].map(ones_of_speech));
+    rows.push(found(&tied()));
+    rows.push(found(&four_away()));
+    rows.push(ones_on_bursts());
+    rows.push(flags_of_a_stream());
+    rows
+}
+
+/// The bits k*k/3 mod 2 for k = 0..n-1, which have no order that the coding knows.
+fn mixed(n: usize) -> Vec<u8> {
+    (0..n).map(|k| (k * k / 3 % 2) as u8).collect()
+}
+
+/// Bits as numbers.
+fn numbers(bits: &[u8]) -> Vec<usize> {
+    bits.iter().map(|&bit| usize::from(bit)).collect()
+}
+
+/// The bits that are sent for information bits that are in order.
+fn sent(channel: &Channel, identity: u16, d: &[u8]) -> Vec<u8> {
+    channel.encode(identity, d).expect("a good block is sent")
+}
+
+/// The parity bits of a mixed block.
+fn parity_of_mixed(channel: &Channel) -> Vec<usize> {
+    let d = mixed(channel.covered);
+    numbers(&parity(&d, &(channel.generator)()))
+}
+
+/// Where the ones of the coded bits stand, for the speech block with a one at d(k) alone.
+fn ones_of_speech(k: usize) -> Vec<usize> {
+    let mut d = vec![0; 260];
+    d[k] = 1;
+    ones_at(&sent(&SPEECH, NO_IDENTITY, &d))
+}
+
+/// The received bits of eight pairs, then the nearest candidate and its count.
+fn found(r: &[u8]) -> Vec<usize> {
+    let nearest = nearest(r);
+    [numbers(r), numbers(&nearest.u), vec![nearest.count]].concat()
+}
+
+/// All lists of sixteen bits, from 0..00, 0..01, 0..10 on.
+fn lists_of_eight_pairs() -> impl Iterator<Item = Vec<u8>> {
+    (0..1 << 16).map(|number| bits_of(number, 16).into_iter().rev().collect())
+}
+
+/// The candidates of eight bits that have the fewest disagreements.
+fn all_nearest(r: &[u8]) -> Vec<Vec<u8>> {
+    let fewest = nearest(r).count;
+    let pairs = Pairs::of(r);
+    (0..1 << 4)
+        .filter(|&number| pairs.disagreements(number) == fewest)
+        .map(|number| bits_of(number, 8))
+        .collect()
+}
+
+/// What a tie would take by three other rules: compared from the last bit back, the 1 at the first
+/// difference; compared from u(0) on, the 0 there; and the 1.
+fn otherwise(r: &[u8]) -> Vec<Vec<u8>> {
+    let all = all_nearest(r);
+    let backwards = |u: &&Vec<u8>| u.iter().rev().copied().collect::<Vec<u8>>();
+    let taken = [
+        all.iter().max_by_key(backwards),
+        all.iter().min(),
+        all.iter().max(),
+    ];
+    taken.into_iter().flatten().cloned().collect()
+}
+
+/// The first list of which the rule for ties and the three others each take another candidate.
+fn tied() -> Vec<u8> {
+    let is_told = |r: &Vec<u8>| {
+        let mut taken = otherwise(r);
+        taken.push(nearest(r).u);
+        taken.sort_unstable();
+        taken.dedup();
+        taken.len() == 4
+    };
+    lists_of_eight_pairs().find(is_told).expect("there is one")
+}
+
+/// The first list that is four bits away from several candidates, of which the rule for ties takes
+/// one that none of the others takes, and one that has more than a single one.
+fn four_away() -> Vec<u8> {
+    let is_told = |r: &Vec<u8>| {
+        let nearest = nearest(r);
+        nearest.count == 4 && ones(&nearest.u) > 1 && !otherwise(r).contains(&nearest.u)
+    };
+    lists_of_eight_pairs().find(is_told).expect("there is one")
+}
+
+/// Where the ones stand in the eight bursts, one after another, of a stream that sends one speech
+/// block and ends: d(188)..d(195), which are c(384)..c(391), are 1, a bit in each of the bursts.
+fn ones_on_bursts() -> Vec<usize> {
+    let mut d = vec![0; 260];
+    d[188..=195].fill(1);
+    ones_at(&sent_and_ended(&[d]).concat())
+}
+
+/// e(57) and e(58), hl and hu, of each burst of a stream that sends FACCH, then speech, and ends.
+fn flags_of_a_stream() -> Vec<usize> {
+    let bursts = sent_and_ended(&[mixed(184), mixed(260)]);
+    let flags: Vec<&[u8]> = bursts.iter().map(|e| &e[57..=58]).collect();
+    numbers(&flags.concat())
+}
+
+#[cfg(test)]
+mod tests {
+    use super::*;
+    use crate::model::coding::convolve;
+
+    #[test]
+    fn there_are_thirteen_rows() {
+        let lengths: Vec<usize> = rows().iter().map(|row| row.len()).collect();
+        assert_eq!(lengths[..3], [40, 10, 36]);
+        assert_eq!(lengths[9..11], [25, 25]);
+        assert_eq!((lengths[12], lengths.len()), (24, 13));
+    }
+
+    #[test]
+    fn numbers_are_parted_by_single_spaces() {
+        assert_eq!(line(&[1, 0, 182]), "1 0 182");
+        assert_eq!(lines().len(), 13);
+    }
+
+    #[test]
+    fn mixed_bits_begin_so() {
+        // 0, 1, 4, 9, 16, 25, 36, 49, 64, 81 by 3: 0, 0, 1, 3, 5, 8, 12, 16, 21, 27
+        assert_eq!(mixed(10), [0, 0, 1, 1, 1, 0, 0, 0, 1, 1]);
+    }
+
+    #[test]
+    fn the_parity_of_control_is_that_of_the_block_that_is_sent() {
+        let p: Vec<u8> = parity_of_mixed(&CONTROL)
+            .iter()
+            .map(|&bit| bit as u8)
+            .collect();
+        let u = [&mixed(184)[..], &p, &[0; 4]].concat();
+        assert_eq!(convolve(&u), sent(&CONTROL, NO_IDENTITY, &mixed(184)));
+    }
+
+    #[test]
+    fn the_parity_of_sch_is_that_of_the_block_that_is_sent() {
+        let p: Vec<u8> = parity_of_mixed(&SCH).iter().map(|&bit| bit as u8).collect();
+        let u = [&mixed(25)[..], &p, &[0; 4]].concat();
+        assert_eq!(convolve(&u), sent(&SCH, NO_IDENTITY, &mixed(25)));
+    }
+
+    /// In how many places the pairs of u disagree with the received bits, counted one by one.
+    fn disagreements(u: &[u8], r: &[u8]) -> usize {
+        let c = convolve(u);
+        (0..r.len()).filter(|&k| c[k] != r[k]).count()
+    }
+
+    /// Several candidates tie at the count of the nearest one, and that is not all zeros.
+    fn is_a_tie(r: &[u8]) {
+        let nearest = nearest(r);
+        let all = all_nearest(r);
+        assert!(all.len() >= 3);
+        assert!(all.contains(&nearest.u) && ones(&nearest.u) > 0);
+        for number in 0..1 << 4 {
+            let u = bits_of(number, 8);
+            let count = disagreements(&u, r);
+            assert!(count >= nearest.count);
+            assert_eq!(count == nearest.count, all.contains(&u));
+        }
+    }
+
+    #[test]
+    fn the_two_lists_of_eight_pairs_tie() {
+        is_a_tie(&tied());
+        is_a_tie(&four_away());
+        assert_eq!(nearest(&four_away()).count, 4);
+        assert_ne!(nearest(&four_away()).u, nearest(&tied()).u);
+    }
+
+    #[test]
+    fn the_other_rules_take_others() {
+        for r in [tied(), four_away()] {
+            let taken = nearest(&r).u;
+            for other in otherwise(&r) {
+                assert!(all_nearest(&r).contains(&other));
+                assert_ne!(other, taken);
+            }
+        }
+    }
+
+    #[test]
+    fn a_bit_stands_in_each_of_the_eight_bursts() {
+        // Beside those of the parity 111, whose ones of c are at 182, 183, 184, 186, 188, 194, 195.
+        let ones = ones_on_bursts();
+        assert_eq!(ones.len(), 8 + 7);
+        for burst in 0..8 {
+            assert!(ones.iter().any(|place| place / 116 == burst), "{}", burst);
+        }
+    }
+
+    #[test]
+    fn flags_are_those_of_facch_in_the_first_eight_bursts_alone() {
+        let flags: Vec<usize> = flags_of_a_stream();
+        assert_eq!(flags[..8], [0, 1, 0, 1, 0, 1, 0, 1]);
+        assert_eq!(flags[8..16], [1, 0, 1, 0, 1, 0, 1, 0]);
+        assert_eq!(flags[16..], [0; 8]);
+    }
+}
