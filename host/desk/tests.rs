@@ -105,14 +105,14 @@ impl Call {
         self.lengths().1
     }
 
-    /// What the reference makes of an input; a send counts nothing.
-    fn reference(&self, identity: u8, input: &[u8]) -> Received {
+    /// What the reference makes of an input for so many lent bytes; a send counts nothing.
+    fn reference(&self, identity: u8, input: &[u8], lent: usize) -> Received {
         let identity = u16::from(identity);
         if self.sends {
-            let sent = self.channel.encode(identity, input)?;
+            let sent = self.channel.encode(identity, input, lent)?;
             Ok((0, sent))
         } else {
-            self.channel.decode(identity, input)
+            self.channel.decode(identity, input, lent)
         }
     }
 
@@ -174,10 +174,7 @@ fn outcome(call: &Call, identity: u8, input: &[u8], before: &[u8]) -> Outcome {
 
 /// What the reference makes of them.
 fn expected(call: &Call, identity: u8, input: &[u8], before: &[u8]) -> Outcome {
-    if before.len() != call.writes() {
-        return refused(1, 0, before);
-    }
-    match call.reference(identity, input) {
+    match call.reference(identity, input, before.len()) {
         Ok((count, bits)) => good(count, &bits),
         Err(refusal) => refused(refusal.number(), refusal.count().unwrap_or(0), before),
     }
@@ -225,8 +222,8 @@ fn any_identity(random: &mut Random) -> u8 {
 fn block(random: &mut Random, channel: &Channel) -> (u8, Vec<u8>, Vec<u8>) {
     let identity = any_identity(random);
     let d = random_bits(random, channel.reads);
-    let sent = channel.encode(u16::from(identity), &d).unwrap();
-    (identity, d, sent)
+    let sent = channel.encode(u16::from(identity), &d, channel.writes);
+    (identity, d, sent.unwrap())
 }
 
 /// A random access block: its identity, its bits, its coded bits.
@@ -268,7 +265,7 @@ fn every_access_block_is_sent_and_comes_back() {
     for identity in 0..64 {
         for number in 0..256 {
             let d = bits_of(number, 8);
-            let e = ACCESS.encode(u16::from(identity), &d).unwrap();
+            let e = ACCESS.encode(u16::from(identity), &d, 36).unwrap();
             gives(&mut random, &SEND_ACCESS, identity, &d, 0, &e);
             gives(&mut random, &RECEIVE_ACCESS, identity, &e, 0, &d);
         }
@@ -283,7 +280,7 @@ fn control_blocks_are_sent_and_come_back() {
     blocks.extend([vec![0; 184], vec![1; 184]]);
     blocks.extend((0..600).map(|_| random_bits(&mut random, 184)));
     for d in blocks {
-        let c = CONTROL.encode(NO_IDENTITY, &d).unwrap();
+        let c = CONTROL.encode(NO_IDENTITY, &d, 456).unwrap();
         gives(&mut random, &SEND_CONTROL, 0, &d, 0, &c);
         gives(&mut random, &RECEIVE_CONTROL, 0, &c, 0, &d);
     }
@@ -556,7 +553,8 @@ fn a_good_answer_writes_every_byte_whatever_stood_there() {
     let mut random = Random::new(118);
     for call in &CALLS {
         let (identity, input) = call.good_input(&mut random);
-        let (_, bits) = call.reference(identity, &input).unwrap();
+        let answer = call.reference(identity, &input, call.writes());
+        let (_, bits) = answer.unwrap();
         for fill in 0..=255 {
             let before = vec![fill; call.writes()];
             let got = outcome(call, identity, &input, &before);
@@ -621,7 +619,7 @@ fn handbook_colour_bits_under_identity_0() {
 #[test]
 fn handbook_identity_63_passes_and_64_is_refused() {
     let mut random = Random::new(124);
-    let e = ACCESS.encode(63, &[1; 8]).unwrap();
+    let e = ACCESS.encode(63, &[1; 8], 36).unwrap();
     gives(&mut random, &SEND_ACCESS, 63, &[1; 8], 0, &e);
     gives(&mut random, &RECEIVE_ACCESS, 63, &e, 0, &[1; 8]);
     refuses(&mut random, &SEND_ACCESS, 64, &[1; 8], 3, 0);

@@ -46,7 +46,8 @@ fn numbers(bits: &[u8]) -> Vec<usize> {
 
 /// The bits that are sent for information bits that are in order.
 fn sent(channel: &Channel, identity: u16, d: &[u8]) -> Vec<u8> {
-    channel.encode(identity, d).expect("a good block is sent")
+    let answer = channel.encode(identity, d, channel.writes);
+    answer.expect("a good block is sent")
 }
 
 /// The parity bits of a mixed block.

@@ -1,15 +1,19 @@
 //! The kit's line protocol: a word and its arguments, parted by single spaces. One sending and one
 //! receiving stream live through all of the lines.
 
+use crate::model::burst::FOUR_BURSTS;
 use crate::model::channel::{self, Received, NO_IDENTITY};
-use crate::model::receiving_stream::{Receiver, Taken};
+use crate::model::receiving_stream::{Receiver, Taken, LENT_TO_TAKE};
 use crate::model::refusal::Refusal;
 use crate::model::sending_stream::Sender;
 use crate::model::trellis::{self, View};
-use crate::text::{bits, refused, told, written};
+use crate::text::{bits, sent, told, Told};
 
 /// A line over this many bytes is not understood.
 const LONGEST_LINE: usize = 1000;
+
+/// The most bytes that a line lends.
+const MOST_LENT: u16 = 600;
 
 /// The answer to a line that is not understood.
 const NOT_UNDERSTOOD: &str = "?";
@@ -29,37 +33,41 @@ fn number(characters: &[u8]) -> Option<u16> {
     u16::try_from(value).ok()
 }
 
-/// The bits that are sent.
-fn sent(answer: Result<Vec<u8>, Refusal>) -> String {
-    told(answer, |bits| written(&bits))
+/// A buffer of so many bytes, 0 to 600, each of them one digit; nothing if it is said otherwise.
+fn buffer(length: &[u8], byte: &[u8]) -> Option<Vec<u8>> {
+    let length = number(length).filter(|&length| length <= MOST_LENT)?;
+    match byte {
+        [digit @ b'0'..=b'9'] => Some(vec![digit - b'0'; length.into()]),
+        _ => None,
+    }
 }
 
 /// The count and the bits.
-fn received(answer: Received) -> String {
-    told(answer, |(count, d)| format!("{} {}", count, written(&d)))
+fn received(answer: Received) -> Told {
+    told(answer, |(count, d)| Told::new(count.to_string(), d))
 }
 
 /// The sixteen numbers of the view, parted by single spaces.
-fn viewed(answer: Result<View, Refusal>) -> String {
+fn viewed(answer: Result<View, Refusal>) -> Told {
     told(answer, |view| {
-        view.map(|number| number.to_string()).join(" ")
+        Told::words(view.map(|number| number.to_string()).join(" "))
     })
 }
 
 /// "waiting"; or the kind, n, the count and the bits; or "refused" and what is returned besides.
-fn taken(answer: Result<Taken, Refusal>) -> String {
+fn taken(answer: Result<Taken, Refusal>) -> Told {
     told(answer, |taken| match taken {
-        Taken::Waiting => "waiting".to_string(),
+        Taken::Waiting => Told::words("waiting".to_string()),
         Taken::Good { n, kind, count, d } => {
-            format!("{} {} {} {}", kind.word(), n, count, written(&d))
+            Told::new(format!("{} {} {}", kind.word(), n, count), d)
         }
-        Taken::Bad { n, refusal } => refused(refusal, Some(n)),
+        Taken::Bad { n, refusal } => Told::refused(refusal, Some(n)),
     })
 }
 
 /// The answer of a channel's two verbs: its name sends a block, with a question mark behind it a
 /// block is received. The identity comes first where the channel has one.
-fn of_channel(word: &[u8], arguments: &[&[u8]]) -> Option<String> {
+fn of_channel(word: &[u8], arguments: &[&[u8]], lent: Option<usize>) -> Option<Told> {
     let asked = word.strip_suffix(b"?");
     let channel = channel::named(asked.unwrap_or(word))?;
     let (identity, list) = match arguments {
@@ -68,8 +76,8 @@ fn of_channel(word: &[u8], arguments: &[&[u8]]) -> Option<String> {
         _ => return None,
     };
     Some(match asked {
-        Some(_) => received(channel.decode(identity, &list)),
-        None => sent(channel.encode(identity, &list)),
+        Some(_) => received(channel.decode(identity, &list, lent.unwrap_or(channel.reads))),
+        None => sent(channel.encode(identity, &list, lent.unwrap_or(channel.writes))),
     })
 }
 
@@ -98,23 +106,48 @@ impl Kit {
             .unwrap_or_else(|| NOT_UNDERSTOOD.to_string())
     }
 
-    /// The answer to a word and its arguments, one row for each verb; nothing if they are not
-    /// understood.
+    /// The answer to a word and its arguments; nothing if they are not understood.
     fn answer_fields(&mut self, fields: &[&[u8]]) -> Option<String> {
+        if let [b"lend", length, byte, call @ ..] = fields {
+            let lent = buffer(length, byte)?;
+            let told = self.call_that_writes(call, Some(lent.len()))?;
+            return Some(told.with_buffer(lent));
+        }
+        let told = match self.call_that_writes_nothing(fields) {
+            Some(told) => told,
+            None => self.call_that_writes(fields, None)?,
+        };
+        Some(told.plain())
+    }
+
+    /// What is told of a call that writes to so many lent bytes, to the right number of them where
+    /// none is said; one row for each verb, nothing for other words.
+    fn call_that_writes(&mut self, fields: &[&[u8]], lent: Option<usize>) -> Option<Told> {
+        let four_bursts = lent.unwrap_or(FOUR_BURSTS);
         Some(match fields {
-            // Without an argument it is the view of nothing.
-            [b"trellis"] => viewed(trellis::view(&[])),
-            [b"trellis", c] => viewed(trellis::view(&bits(c))),
-            [b"send", d] => sent(self.sender.send(&bits(d))),
-            [b"end"] => sent(self.sender.end()),
-            [b"take", burst, e] => taken(self.receiver.take(number(burst)?, &bits(e))),
-            [b"fresh"] => {
-                *self = Kit::fresh();
-                "fresh".to_string()
+            [b"send", d] => sent(self.sender.send(&bits(d), four_bursts)),
+            [b"end"] => sent(self.sender.end(four_bursts)),
+            [b"take", burst, e] => {
+                let lent = lent.unwrap_or(LENT_TO_TAKE);
+                taken(self.receiver.take(number(burst)?, &bits(e), lent))
             }
-            [word, arguments @ ..] => of_channel(word, arguments)?,
+            [word, arguments @ ..] => of_channel(word, arguments, lent)?,
             [] => return None,
         })
+    }
+
+    /// What is told of a call that needs no buffer; one row for each verb, nothing for other words.
+    fn call_that_writes_nothing(&mut self, fields: &[&[u8]]) -> Option<Told> {
+        match fields {
+            // Without an argument it is the view of nothing.
+            [b"trellis"] => Some(viewed(trellis::view(&[]))),
+            [b"trellis", c] => Some(viewed(trellis::view(&bits(c)))),
+            [b"fresh"] => {
+                *self = Kit::fresh();
+                Some(Told::words("fresh".to_string()))
+            }
+            _ => None,
+        }
     }
 }
 
@@ -468,6 +501,200 @@ mod tests {
         ]);
         let kept = [0, 2, 5, 8, 9].map(|k| between[k].clone());
         assert_eq!(kept[..], alone[..]);
+    }
+
+    #[test]
+    fn a_lent_buffer_is_shown_with_what_is_written_to_it() {
+        answered(&[
+            ("lend 36 7 access 63 00000000", "done {0*36}"),
+            ("lend 8 7 access? 63 {0*36}", "0 {0*8}"),
+            ("lend 00008 0 access? 63 {0*35}1", "1 {0*8}"),
+        ]);
+    }
+
+    #[test]
+    fn a_lent_buffer_is_left_by_a_refusal() {
+        answered(&[
+            ("lend 35 7 access 63 00000000", "refused 1 {7*35}"),
+            ("lend 36 7 access 63 0000000", "refused 1 {7*36}"),
+            ("lend 36 8 access 63 00000002", "refused 2 {8*36}"),
+            ("lend 36 9 access 64 00000000", "refused 3 {9*36}"),
+            ("lend 8 4 access? 0 {0*36}", "refused 8 0 {4*8}"),
+            ("lend 464 5 end", "refused 6 {5*464}"),
+            ("lend 260 6 take 1 {0*116}", "refused 4 {6*260}"),
+            ("lend 0 7 end", "refused 1 -"),
+        ]);
+    }
+
+    /// A line that is done, or heard well, of every verb that a fresh kit can call, and how many
+    /// bytes it writes.
+    fn calls_that_write() -> Vec<(String, usize)> {
+        let mut calls = vec![
+            (full("send {0*260}"), 464),
+            (full("send {0*184}"), 464),
+            (full("take 0 {0*116}"), 260),
+        ];
+        for channel in &CHANNELS {
+            let d = "0".repeat(channel.reads);
+            let send = format!("{} {}", words_of(channel, ""), d);
+            let receive = format!("{} {}", words_of(channel, "?"), answer_to(&send));
+            calls.extend([(send, channel.writes), (receive, channel.reads)]);
+        }
+        calls
+    }
+
+    #[test]
+    fn every_length_lent_but_the_right_one_is_refused() {
+        for (call, right) in calls_that_write() {
+            for length in 0..=600 {
+                let answer = answer_to(&format!("lend {} 3 {}", length, call));
+                let left = match length {
+                    0 => "-".to_string(),
+                    _ => "3".repeat(length),
+                };
+                let is_refused = answer == format!("refused 1 {}", left);
+                assert_eq!(is_refused, length != right, "{} {}", length, call);
+            }
+        }
+    }
+
+    #[test]
+    fn a_wrong_buffer_comes_before_every_other_refusal() {
+        answered(&[
+            ("lend 35 7 access 64 2222222", "refused 1 {7*35}"),
+            ("lend 37 7 access 64 00000002", "refused 1 {7*37}"),
+            ("lend 9 7 access? 64 {2*36}", "refused 1 {7*9}"),
+            ("lend 9 7 access? 0 {0*36}", "refused 1 {7*9}"),
+            ("lend 463 7 send {2*260}", "refused 1 {7*463}"),
+            ("lend 465 7 end", "refused 1 {7*465}"),
+            ("lend 259 7 take 1 {2*116}", "refused 1 {7*259}"),
+        ]);
+        let ended = ["send {0*184}", "end", "lend 463 7 end", "lend 464 7 end"];
+        let answers = answers_to(&ended);
+        assert_eq!(answers[2], full("refused 1 {7*463}"));
+        assert_eq!(answers[3], full("refused 7 {7*464}"));
+    }
+
+    #[test]
+    fn without_lend_a_verb_has_a_buffer_of_the_right_length() {
+        for (call, right) in calls_that_write() {
+            let plain = answer_to(&call);
+            let lent = answer_to(&format!("lend {} 1 {}", right, call));
+            let expected = match plain.as_str() {
+                "waiting" => format!("waiting {}", "1".repeat(right)),
+                bits if are_bits(bits, right) => format!("done {}", bits),
+                heard => heard.to_string(),
+            };
+            assert_eq!(lent, expected, "{}", call);
+        }
+    }
+
+    #[test]
+    fn a_refused_call_with_a_lent_buffer_leaves_the_streams() {
+        let (send, first, second) = ("send {01*130}", "take 0 {0*116}", "take 1 {0*116}");
+        let alone = answers_to(&[send, first, send, second, "end"]);
+        let between = answers_to(&[
+            "lend 463 0 send {01*130}",
+            send,
+            "lend 261 0 take 0 {0*116}",
+            first,
+            "lend 0 0 send {01*130}",
+            "lend 600 0 end",
+            send,
+            "lend 1 0 take 1 {0*116}",
+            second,
+            "end",
+        ]);
+        let kept = [1, 3, 6, 8, 9].map(|k| between[k].clone());
+        assert_eq!(kept[..], alone[..]);
+    }
+
+    #[test]
+    fn a_call_with_a_right_buffer_moves_the_streams() {
+        let plain = answers_to(&["send {1*184}", "send {01*130}", "end"]);
+        let lent = answers_to(&[
+            "lend 464 9 send {1*184}",
+            "lend 464 0 send {01*130}",
+            "lend 464 2 end",
+        ]);
+        for k in 0..3 {
+            assert_eq!(lent[k], format!("done {}", plain[k]));
+        }
+    }
+
+    /// The answers of a kit that takes one block, sent and ended, with lent buffers of sevens.
+    fn taken_to_sevens(block: &str) -> Vec<String> {
+        let mut kit = Kit::fresh();
+        let mut sent = kit.answer(full(&format!("send {}", block)).as_bytes());
+        sent += &kit.answer(b"end");
+        let bursts = (0..8).map(|number| (number, &sent[116 * number..116 * number + 116]));
+        let take = |(number, e)| format!("lend 260 7 take {} {}", number, e);
+        bursts
+            .map(take)
+            .map(|line| kit.answer(line.as_bytes()))
+            .collect()
+    }
+
+    #[test]
+    fn facch_leaves_the_last_76_bytes() {
+        let facch = taken_to_sevens("{1101*46}");
+        assert_eq!(facch[..7], vec![full("waiting {7*260}"); 7]);
+        assert_eq!(facch[7], full("facch 0 0 {1101*46}{7*76}"));
+        let speech = taken_to_sevens("{0110*65}");
+        assert_eq!(speech[7], full("speech 0 0 {0110*65}"));
+    }
+
+    #[test]
+    fn a_bad_block_leaves_the_buffer_but_its_burst_is_taken() {
+        for (e, expected) in [
+            ("{0*116}", "refused 8 0 0 {7*260}"),
+            ("{0*57}01{0*57}", "refused 9 0 {7*260}"),
+        ] {
+            let take = |number| format!("lend 260 7 take {} {}", number, e);
+            let lines: Vec<String> = (0..8).chain([7, 8]).map(take).collect();
+            let lines: Vec<&str> = lines.iter().map(|line| line.as_str()).collect();
+            let answers = answers_to(&lines);
+            assert_eq!(answers[7], full(expected));
+            assert_eq!(answers[8], full("refused 4 {7*260}"));
+            assert_eq!(answers[9], full("waiting {7*260}"));
+        }
+    }
+
+    #[test]
+    fn lend_has_a_length_a_digit_and_a_call_that_writes() {
+        not_understood(&["lend", "lend 36", "lend 36 7", "lend 36 7 ", "lend  7 end"]);
+        not_understood(&["lend 601 7 end", "lend 65535 7 end", "lend 65536 7 end"]);
+        not_understood(&["lend x 7 end", "lend 000464 7 end", "lend -1 7 end"]);
+        not_understood(&["lend 464  end", "lend 464 77 end", "lend 464 x end"]);
+        not_understood(&["lend 464 / end", "lend 464 : end", "lend 464 \u{661} end"]);
+        not_understood(&["lend 464 7  end", "lend 464 7 end ", " lend 464 7 end"]);
+        not_understood(&["lend 16 7 trellis", "lend 0 7 trellis 11", "lend 0 7 fresh"]);
+        not_understood(&[
+            "lend 464 7 lend 464 7 end",
+            "lend 8 7 sends 0",
+            "Lend 0 7 end",
+        ]);
+        not_understood(&["lend 36 7 access x 00000000", "lend 36 7 access 00000000"]);
+        not_understood(&["lend 260 7 take 65536 {0*116}", "lend? 464 7 end"]);
+        answered(&[
+            ("lend 600 7 end", "refused 1 {7*600}"),
+            ("lend 00600 7 end", "refused 1 {7*600}"),
+        ]);
+    }
+
+    #[test]
+    fn fresh_under_lend_leaves_the_streams() {
+        let lines = ["take 0 {0*116}", "lend 0 7 fresh", "take 1 {0*116}"];
+        assert_eq!(answers_to(&lines), ["waiting", "?", "waiting"]);
+    }
+
+    #[test]
+    fn a_whole_line_with_lend_has_at_most_1000_bytes() {
+        let words = "lend 464 7 send ";
+        for (length, expected) in [(1000, full("refused 1 {7*464}")), (1001, "?".to_string())] {
+            let line = format!("{}{{0*{}}}", words, length - words.len());
+            assert_eq!(answer_to(&line), expected);
+        }
     }
 
     #[test]

@@ -1,7 +1,7 @@
 //! The access sheet: two decimal digits (identity), a space, eight characters d(0)..d(7).
 
 use crate::model::channel::ACCESS;
-use crate::text::{bits, told, written};
+use crate::text::{bits, sent};
 
 /// The length, the two digits and the space are as a request has them.
 fn is_request(line: &[u8]) -> bool {
@@ -16,8 +16,8 @@ pub fn answer(line: &[u8]) -> String {
     }
     let (tens, units) = (line[0] - b'0', line[1] - b'0');
     let identity = u16::from(10 * tens + units);
-    let answer = ACCESS.encode(identity, &bits(&line[3..]));
-    format!("{}{} {}", tens, units, told(answer, |e| written(&e)))
+    let answer = ACCESS.encode(identity, &bits(&line[3..]), ACCESS.writes);
+    format!("{}{} {}", tens, units, sent(answer).plain())
 }
 
 #[cfg(test)]

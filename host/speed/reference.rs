@@ -36,21 +36,21 @@ fn repeat<T>(calls: usize, mut call: impl FnMut() -> T) -> T {
 /// Whether a block is encoded so many times.
 fn encode(channel: &Channel, calls: usize) -> bool {
     let d = bits(channel.reads);
-    repeat(calls, || channel.encode(IDENTITY, &d)).is_ok()
+    repeat(calls, || channel.encode(IDENTITY, &d, channel.writes)).is_ok()
 }
 
 /// Whether a block comes back, decoded so many times.
 fn decode(channel: &Channel, calls: usize) -> bool {
     let d = bits(channel.reads);
-    let sent = channel.encode(IDENTITY, &d).unwrap();
-    repeat(calls, || channel.decode(IDENTITY, &sent)) == Ok((0, d))
+    let sent = channel.encode(IDENTITY, &d, channel.writes).unwrap();
+    repeat(calls, || channel.decode(IDENTITY, &sent, channel.reads)) == Ok((0, d))
 }
 
 /// Whether a stream sends so many blocks.
 fn send(calls: usize, length: usize) -> bool {
     let d = bits(length);
     let mut sender = Sender::fresh();
-    repeat(calls, || sender.send(&d)).is_ok()
+    repeat(calls, || sender.send(&d, 464)).is_ok()
 }
 
 /// Whether so many of a block's eight bursts are taken: the eighth brings the block.
@@ -59,7 +59,8 @@ fn take(calls: usize, length: usize) -> bool {
     let bursts = sent_and_ended(from_ref(&block));
     let mut receiver = Receiver::fresh();
     let mut numbered = (0..).zip(&bursts);
-    let next = || numbered.next().map(|(number, e)| receiver.take(number, e));
+    let mut take = |(number, e): (u16, &Vec<u8>)| receiver.take(number, e, 260);
+    let next = || numbered.next().map(&mut take);
     match repeat(calls, next) {
         Some(Ok(Taken::Waiting)) => calls < 8,
         Some(Ok(Taken::Good { d, .. })) => d == block,

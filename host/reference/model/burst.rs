@@ -4,6 +4,8 @@ use crate::model::burst::Interleaving::{Diagonal, Rectangular};
 
 /// A burst is e(0)..e(115).
 pub const BURST: usize = 116;
+/// What a stream writes at once.
+pub const FOUR_BURSTS: usize = 4 * BURST;
 /// e(57) is hl
 const HL: usize = 57;
 /// e(58) is hu

@@ -122,9 +122,9 @@ impl Channel {
         2 * self.pairs
     }
 
-    /// Refusals in the order 1, 2, 3; so many bits must be lent.
-    fn check(&self, identity: u16, bits: &[u8], length: usize) -> Result<(), Refusal> {
-        check(bits, bits.len() == length)?;
+    /// Refusals in the order 1, 2, 3.
+    fn check(&self, identity: u16, bits: &[u8], right_lengths: bool) -> Result<(), Refusal> {
+        check(bits, right_lengths)?;
         if self.has_identity {
             check_identity(identity)?;
         }
@@ -136,9 +136,9 @@ impl Channel {
         (self.encoder)(self, identity, d)
     }
 
-    /// The bits that are sent for the information bits d.
-    pub fn encode(&self, identity: u16, d: &[u8]) -> Result<Vec<u8>, Refusal> {
-        self.check(identity, d, self.reads)?;
+    /// The bits that are sent for the information bits d, written to so many lent bytes.
+    pub fn encode(&self, identity: u16, d: &[u8], lent: usize) -> Result<Vec<u8>, Refusal> {
+        self.check(identity, d, d.len() == self.reads && lent == self.writes)?;
         let c = self.coded(identity, d);
         Ok(match self.flags {
             Some(flags) => on_four_bursts(&c, &flags),
@@ -146,12 +146,13 @@ impl Channel {
         })
     }
 
-    /// The block that is received; the flags of four bursts must be bits, but are not used.
-    pub fn decode(&self, identity: u16, received: &[u8]) -> Received {
-        self.check(identity, received, self.writes)?;
+    /// The block that is received, written to so many lent bytes; the flags of four bursts must be
+    /// bits, but are not used.
+    pub fn decode(&self, identity: u16, e: &[u8], lent: usize) -> Received {
+        self.check(identity, e, e.len() == self.writes && lent == self.reads)?;
         match self.flags {
-            Some(_) => (self.decoder)(self, identity, &from_four_bursts(received)),
-            None => (self.decoder)(self, identity, received),
+            Some(_) => (self.decoder)(self, identity, &from_four_bursts(e)),
+            None => (self.decoder)(self, identity, e),
         }
     }
 }
@@ -234,7 +235,9 @@ mod tests {
     fn sending_writes_bits_in_the_number_of_the_table() {
         for channel in CHANNELS {
             for bit in [0, 1] {
-                let sent = channel.encode(63, &vec![bit; channel.reads]).unwrap();
+                let sent = channel
+                    .encode(63, &vec![bit; channel.reads], channel.writes)
+                    .unwrap();
                 assert_eq!(sent.len(), channel.writes);
                 assert!(sent.iter().all(|&bit| bit <= 1));
             }
@@ -246,15 +249,34 @@ mod tests {
         for channel in CHANNELS {
             let (reads, writes) = (channel.reads, channel.writes);
             for length in [0, 1, reads - 1, reads + 1, writes, 2 * reads] {
-                let refused = channel.encode(64, &vec![2; length]);
+                let refused = channel.encode(64, &vec![2; length], channel.writes);
                 assert_eq!(refused, Err(WrongLength), "{}", channel.name);
             }
             for length in [0, 1, reads, writes - 1, writes + 1, 2 * writes] {
-                let refused = channel.decode(64, &vec![2; length]);
+                let refused = channel.decode(64, &vec![2; length], channel.reads);
                 assert_eq!(refused, Err(WrongLength), "{}", channel.name);
             }
         }
-        assert_eq!(SACCH.decode(0, &[2; 456]), Err(WrongLength));
+        assert_eq!(SACCH.decode(0, &[2; 456], 184), Err(WrongLength));
+    }
+
+    #[test]
+    fn another_length_lent_is_refused_first() {
+        for channel in CHANNELS {
+            let (reads, writes) = (channel.reads, channel.writes);
+            for length in (0..=600).filter(|&length| length != writes) {
+                for bit in [0, 2] {
+                    let refused = channel.encode(64, &vec![bit; reads], length);
+                    assert_eq!(refused, Err(WrongLength), "{}", channel.name);
+                }
+            }
+            for length in (0..=600).filter(|&length| length != reads) {
+                for bit in [0, 2] {
+                    let refused = channel.decode(64, &vec![bit; writes], length);
+                    assert_eq!(refused, Err(WrongLength), "{}", channel.name);
+                }
+            }
+        }
     }
 
     #[test]
@@ -264,25 +286,36 @@ mod tests {
                 // The last bit of speech is unprotected.
                 let mut d = vec![0; channel.reads];
                 d[channel.reads - 1] = byte;
-                assert_eq!(channel.encode(64, &d), Err(NotABit), "{}", channel.name);
+                assert_eq!(
+                    channel.encode(64, &d, channel.writes),
+                    Err(NotABit),
+                    "{}",
+                    channel.name
+                );
                 let mut received = vec![0; channel.writes];
                 received[channel.writes - 1] = byte;
-                let refused = channel.decode(64, &received);
+                let refused = channel.decode(64, &received, channel.reads);
                 assert_eq!(refused, Err(NotABit), "{}", channel.name);
             }
             let all_wrong = (vec![2; channel.reads], vec![2; channel.writes]);
-            assert_eq!(channel.encode(64, &all_wrong.0), Err(NotABit));
-            assert_eq!(channel.decode(64, &all_wrong.1), Err(NotABit));
+            assert_eq!(
+                channel.encode(64, &all_wrong.0, channel.writes),
+                Err(NotABit)
+            );
+            assert_eq!(
+                channel.decode(64, &all_wrong.1, channel.reads),
+                Err(NotABit)
+            );
         }
     }
 
     #[test]
     fn identity_63_passes_and_64_is_refused() {
-        assert!(ACCESS.encode(63, &[1; 8]).is_ok());
-        assert!(ACCESS.decode(63, &[0; 36]).is_ok());
+        assert!(ACCESS.encode(63, &[1; 8], 36).is_ok());
+        assert!(ACCESS.decode(63, &[0; 36], 8).is_ok());
         for identity in [64, 65_535] {
-            assert_eq!(ACCESS.encode(identity, &[1; 8]), Err(WrongIdentity));
-            assert_eq!(ACCESS.decode(identity, &[0; 36]), Err(WrongIdentity));
+            assert_eq!(ACCESS.encode(identity, &[1; 8], 36), Err(WrongIdentity));
+            assert_eq!(ACCESS.decode(identity, &[0; 36], 8), Err(WrongIdentity));
         }
     }
 
@@ -290,10 +323,16 @@ mod tests {
     fn other_channels_look_at_no_identity() {
         for channel in CHANNELS.iter().filter(|channel| !channel.has_identity) {
             let d = random_bits(&mut Random::new(39), channel.reads);
-            let sent = channel.encode(NO_IDENTITY, &d).unwrap();
+            let sent = channel.encode(NO_IDENTITY, &d, channel.writes).unwrap();
             for identity in [1, 63, 64, 65_535] {
-                assert_eq!(channel.encode(identity, &d), Ok(sent.clone()));
-                assert_eq!(channel.decode(identity, &sent), Ok((0, d.clone())));
+                assert_eq!(
+                    channel.encode(identity, &d, channel.writes),
+                    Ok(sent.clone())
+                );
+                assert_eq!(
+                    channel.decode(identity, &sent, channel.reads),
+                    Ok((0, d.clone()))
+                );
             }
         }
     }
@@ -303,19 +342,19 @@ mod tests {
         for channel in CHANNELS {
             let identities = if channel.has_identity { 0..63 } else { 0..1 };
             for identity in identities {
-                let refused = channel.decode(identity, &vec![0; channel.writes]);
+                let refused = channel.decode(identity, &vec![0; channel.writes], channel.reads);
                 assert_eq!(refused, bad_parity(0), "{}", channel.name);
             }
         }
-        assert_eq!(ACCESS.decode(63, &[0; 36]), Ok((0, vec![0; 8])));
-        assert_eq!(ACCESS.encode(63, &[0; 8]), Ok(vec![0; 36]));
+        assert_eq!(ACCESS.decode(63, &[0; 36], 8), Ok((0, vec![0; 8])));
+        assert_eq!(ACCESS.encode(63, &[0; 8], 36), Ok(vec![0; 36]));
     }
 
     #[test]
     fn four_altered_bits_are_beyond_the_promise() {
         // Zeros of an access burst, with bits 0, 1, 3, 6 set.
         let four_set = [&[1, 1, 0, 1, 0, 0, 1][..], &[0; 29]].concat();
-        assert_eq!(ACCESS.decode(63, &four_set), bad_parity(3));
+        assert_eq!(ACCESS.decode(63, &four_set, 8), bad_parity(3));
     }
 
     /// A random block of a channel: d, and the coded bits with so many of the protected altered.
@@ -347,11 +386,14 @@ mod tests {
                 for identity in 0..64 {
                     let (d, c) = altered_block(&mut random, &channel, identity, altered);
                     let e = received(&mut random, &channel, c);
-                    let answer = channel.decode(identity, &e);
+                    let answer = channel.decode(identity, &e, channel.reads);
                     assert_eq!(answer, Ok((altered, d)), "{}", channel.name);
                     let other = (identity + 1 + random.below(63) as u16) % 64;
                     if channel.has_identity {
-                        assert_eq!(channel.decode(other, &e), bad_parity(altered));
+                        assert_eq!(
+                            channel.decode(other, &e, channel.reads),
+                            bad_parity(altered)
+                        );
                     }
                 }
             }
@@ -363,18 +405,23 @@ mod tests {
         let mut random = Random::new(40);
         for channel in CHANNELS {
             let d = random_bits(&mut random, channel.reads);
-            let sent = channel.encode(5, &d).unwrap();
-            assert_eq!(channel.decode(5, &sent), Ok((0, d)), "{}", channel.name);
+            let sent = channel.encode(5, &d, channel.writes).unwrap();
+            assert_eq!(
+                channel.decode(5, &sent, channel.reads),
+                Ok((0, d)),
+                "{}",
+                channel.name
+            );
         }
     }
 
     #[test]
     fn class_2_is_given_as_received() {
         let d = random_bits(&mut Random::new(38), 260);
-        let c = SPEECH.encode(NO_IDENTITY, &d).unwrap();
+        let c = SPEECH.encode(NO_IDENTITY, &d, 456).unwrap();
         let turned = [&c[..378], &inverted(&c[378..])].concat();
         let expected = [&d[..182], &inverted(&d[182..])].concat();
-        assert_eq!(SPEECH.decode(NO_IDENTITY, &turned), Ok((0, expected)));
+        assert_eq!(SPEECH.decode(NO_IDENTITY, &turned, 260), Ok((0, expected)));
     }
 
     #[test]
@@ -383,14 +430,15 @@ mod tests {
         for channel in CHANNELS {
             let c = channel.coded(5, &vec![1; channel.reads]);
             let e = received(&mut random, &channel, c.clone());
-            assert!(channel.decode(5, &e).is_ok());
+            assert!(channel.decode(5, &e, channel.reads).is_ok());
             let (first, number) = channel.parity;
             for k in first..first + number {
                 let mut u = vec![0; channel.pairs];
                 u[k] = 1;
                 let mut wrong = c.clone();
                 add(&mut wrong, &convolve(&u));
-                let answer = channel.decode(5, &received(&mut random, &channel, wrong));
+                let answer =
+                    channel.decode(5, &received(&mut random, &channel, wrong), channel.reads);
                 assert_eq!(answer, bad_parity(0), "u({}) of {}", k, channel.name);
             }
         }
@@ -398,7 +446,7 @@ mod tests {
 
     #[test]
     fn sacch_has_all_flags_1() {
-        let message = SACCH.encode(NO_IDENTITY, &[0; 184]).unwrap();
+        let message = SACCH.encode(NO_IDENTITY, &[0; 184], 464).unwrap();
         for e in message.chunks(BURST) {
             assert_eq!(e[57..=58], [1, 1]);
         }
@@ -407,8 +455,8 @@ mod tests {
     #[test]
     fn sacch_carries_every_bit_of_the_control_block() {
         let d = random_bits(&mut Random::new(6), 184);
-        let control = CONTROL.encode(NO_IDENTITY, &d).unwrap();
-        let sacch = SACCH.encode(NO_IDENTITY, &d).unwrap();
+        let control = CONTROL.encode(NO_IDENTITY, &d, 456).unwrap();
+        let sacch = SACCH.encode(NO_IDENTITY, &d, 464).unwrap();
         assert_eq!(ones(&sacch), ones(&control) + 8);
         assert_eq!(from_four_bursts(&sacch), control);
     }
@@ -416,9 +464,9 @@ mod tests {
     #[test]
     fn flags_must_be_bits() {
         for k in [57, 58, 173, 174, 289, 290, 405, 406] {
-            let mut e = SACCH.encode(NO_IDENTITY, &[0; 184]).unwrap();
+            let mut e = SACCH.encode(NO_IDENTITY, &[0; 184], 464).unwrap();
             e[k] = 2;
-            let refused = SACCH.decode(NO_IDENTITY, &e);
+            let refused = SACCH.decode(NO_IDENTITY, &e, 184);
             assert_eq!(refused, Err(NotABit), "e({})", k % 116);
         }
     }

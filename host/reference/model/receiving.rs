@@ -62,7 +62,7 @@ mod tests {
     #[test]
     fn the_bits_of_speech_are_found_where_they_were_put() {
         let d = random_bits(&mut Random::new(37), 260);
-        let c = SPEECH.encode(NO_IDENTITY, &d).unwrap();
+        let c = SPEECH.encode(NO_IDENTITY, &d, 456).unwrap();
         let u = nearest(&c[..378]).u;
         assert_eq!(speech_bits(&u, &c), d);
         // Class 1 comes from u alone, class 2 from c alone.

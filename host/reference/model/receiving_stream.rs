@@ -7,6 +7,8 @@ use crate::model::refusal::{check, Refusal};
 
 /// Burst 65,535 is the last that can be taken.
 const MOST_BURSTS: usize = 65_536;
+/// A take is lent so many bytes: speech fills them, FACCH leaves the last 76.
+pub const LENT_TO_TAKE: usize = 260;
 
 /// What a taken burst brings.
 #[derive(Debug, PartialEq)]
@@ -44,9 +46,10 @@ impl Receiver {
         Receiver { bursts: Vec::new() }
     }
 
-    /// Takes the next burst; refusals that leave the stream in the order 1, 2, 5, 4.
-    pub fn take(&mut self, number: u16, e: &[u8]) -> Result<Taken, Refusal> {
-        check(e, e.len() == BURST)?;
+    /// Takes the next burst; what it brings is written to so many lent bytes. Refusals that leave
+    /// the stream come in the order 1, 2, 5, 4.
+    pub fn take(&mut self, number: u16, e: &[u8], lent: usize) -> Result<Taken, Refusal> {
+        check(e, e.len() == BURST && lent == LENT_TO_TAKE)?;
         if self.bursts.len() == MOST_BURSTS {
             return Err(Refusal::StreamFull);
         }
@@ -71,7 +74,8 @@ impl Receiver {
         let spread = Interleaving::Diagonal(n);
         let kind = Kind::of_flags(&spread.flags(&self.bursts)).ok_or(Refusal::FourFlags)?;
         let c = spread.bits(&self.bursts);
-        let (count, d) = kind.channel().decode(NO_IDENTITY, &c)?;
+        let channel = kind.channel();
+        let (count, d) = channel.decode(NO_IDENTITY, &c, channel.reads)?;
         Ok((kind, count, d))
     }
 }
@@ -92,7 +96,7 @@ mod tests {
     /// What a fresh receiver makes of bursts given in order.
     fn given(bursts: &[Vec<u8>]) -> Vec<Taken> {
         let mut receiver = Receiver::fresh();
-        let take = |(number, e): (usize, &Vec<u8>)| receiver.take(number as u16, e).unwrap();
+        let take = |(number, e): (usize, &Vec<u8>)| receiver.take(number as u16, e, 260).unwrap();
         bursts.iter().enumerate().map(take).collect()
     }
 
@@ -245,17 +249,21 @@ mod tests {
     #[test]
     fn refusals_come_in_the_order_1_2_5_4() {
         let mut receiver = Receiver::fresh();
-        assert_eq!(receiver.take(1, &[2; 115]), Err(WrongLength));
-        assert_eq!(receiver.take(1, &[]), Err(WrongLength));
-        assert_eq!(receiver.take(0, &[0; 117]), Err(WrongLength));
-        assert_eq!(receiver.take(1, &[2; 116]), Err(NotABit));
-        assert_eq!(receiver.take(1, &[0; 116]), Err(OutOfTurn));
-        assert_eq!(receiver.take(65_535, &[0; 116]), Err(OutOfTurn));
-        assert_eq!(receiver.take(0, &[0; 116]), Ok(Taken::Waiting));
-        assert_eq!(receiver.take(0, &[0; 116]), Err(OutOfTurn));
-        assert_eq!(receiver.take(2, &[0; 116]), Err(OutOfTurn));
-        assert_eq!(receiver.take(257, &[0; 116]), Err(OutOfTurn));
-        assert_eq!(receiver.take(1, &[0; 116]), Ok(Taken::Waiting));
+        assert_eq!(receiver.take(1, &[2; 115], 260), Err(WrongLength));
+        assert_eq!(receiver.take(1, &[], 260), Err(WrongLength));
+        assert_eq!(receiver.take(0, &[0; 117], 260), Err(WrongLength));
+        for lent in [0, 116, 184, 259, 261, 600] {
+            assert_eq!(receiver.take(0, &[0; 116], lent), Err(WrongLength));
+            assert_eq!(receiver.take(1, &[2; 116], lent), Err(WrongLength));
+        }
+        assert_eq!(receiver.take(1, &[2; 116], 260), Err(NotABit));
+        assert_eq!(receiver.take(1, &[0; 116], 260), Err(OutOfTurn));
+        assert_eq!(receiver.take(65_535, &[0; 116], 260), Err(OutOfTurn));
+        assert_eq!(receiver.take(0, &[0; 116], 260), Ok(Taken::Waiting));
+        assert_eq!(receiver.take(0, &[0; 116], 260), Err(OutOfTurn));
+        assert_eq!(receiver.take(2, &[0; 116], 260), Err(OutOfTurn));
+        assert_eq!(receiver.take(257, &[0; 116], 260), Err(OutOfTurn));
+        assert_eq!(receiver.take(1, &[0; 116], 260), Ok(Taken::Waiting));
     }
 
     #[test]
@@ -264,7 +272,7 @@ mod tests {
         for k in 0..116 {
             let mut e = vec![0; 116];
             e[k] = 2;
-            assert_eq!(receiver.take(0, &e), Err(NotABit), "e({})", k);
+            assert_eq!(receiver.take(0, &e, 260), Err(NotABit), "e({})", k);
         }
     }
 
@@ -275,11 +283,12 @@ mod tests {
         let mut taken = Vec::new();
         for number in 0..20 {
             let e = &bursts[usize::from(number)];
-            assert_eq!(receiver.take(number, &e[1..]), Err(WrongLength));
-            assert_eq!(receiver.take(number, &[255; 116]), Err(NotABit));
-            assert_eq!(receiver.take(number + 1, e), Err(OutOfTurn));
-            taken.push(receiver.take(number, e).unwrap());
-            assert_eq!(receiver.take(number, e), Err(OutOfTurn));
+            assert_eq!(receiver.take(number, &e[1..], 260), Err(WrongLength));
+            assert_eq!(receiver.take(number, e, 184), Err(WrongLength));
+            assert_eq!(receiver.take(number, &[255; 116], 260), Err(NotABit));
+            assert_eq!(receiver.take(number + 1, e, 260), Err(OutOfTurn));
+            taken.push(receiver.take(number, e, 260).unwrap());
+            assert_eq!(receiver.take(number, e, 260), Err(OutOfTurn));
         }
         assert_eq!(taken, given(&bursts));
     }
@@ -289,12 +298,16 @@ mod tests {
         let mut receiver = Receiver {
             bursts: vec![vec![0; BURST]; 65_535],
         };
-        assert_eq!(receiver.take(0, &[0; 116]), Err(OutOfTurn));
-        assert_eq!(receiver.take(65_535, &[0; 116]), Ok(bad_parity(16_382, 0)));
+        assert_eq!(receiver.take(0, &[0; 116], 260), Err(OutOfTurn));
+        assert_eq!(
+            receiver.take(65_535, &[0; 116], 260),
+            Ok(bad_parity(16_382, 0))
+        );
         for number in [0, 65_535] {
-            assert_eq!(receiver.take(number, &[0; 115]), Err(WrongLength));
-            assert_eq!(receiver.take(number, &[2; 116]), Err(NotABit));
-            assert_eq!(receiver.take(number, &[0; 116]), Err(StreamFull));
+            assert_eq!(receiver.take(number, &[0; 115], 260), Err(WrongLength));
+            assert_eq!(receiver.take(number, &[0; 116], 259), Err(WrongLength));
+            assert_eq!(receiver.take(number, &[2; 116], 260), Err(NotABit));
+            assert_eq!(receiver.take(number, &[0; 116], 260), Err(StreamFull));
         }
     }
 }

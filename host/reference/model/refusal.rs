@@ -48,9 +48,9 @@ impl Refusal {
     }
 }
 
-/// Refusal 1 for a wrong length, then refusal 2 for a byte over 1.
-pub fn check(bits: &[u8], right_length: bool) -> Result<(), Refusal> {
-    if !right_length {
+/// Refusal 1 for a wrong length, of the bits or of what is lent, then refusal 2 for a byte over 1.
+pub fn check(bits: &[u8], right_lengths: bool) -> Result<(), Refusal> {
+    if !right_lengths {
         return Err(Refusal::WrongLength);
     }
     if bits.iter().any(|&byte| byte > 1) {

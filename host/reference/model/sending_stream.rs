@@ -1,10 +1,10 @@
 //! The sending stream: each coded bit is scattered to its burst and place, in a list of bursts
 //! that grows by four with every block.
 
-use crate::model::burst::{cut, Interleaving, BURST};
+use crate::model::burst::{cut, Interleaving, BURST, FOUR_BURSTS};
 use crate::model::channel::NO_IDENTITY;
 use crate::model::kind::Kind;
-use crate::model::refusal::Refusal;
+use crate::model::refusal::{check, Refusal};
 
 /// So many blocks make a stream full.
 pub const MOST_BLOCKS: usize = 16_383;
@@ -18,11 +18,12 @@ pub struct Sender {
     ended: bool,
 }
 
-/// The coded bits and the flags of a block; its length names its kind.
-fn coded(d: &[u8]) -> Result<(Vec<u8>, [u8; 8]), Refusal> {
+/// The coded bits and the flags of a block, whose length names its kind, for so many lent bytes;
+/// refusals in the order 1, 2.
+fn coded(d: &[u8], lent: usize) -> Result<(Vec<u8>, [u8; 8]), Refusal> {
     let kind = Kind::of_length(d.len()).ok_or(Refusal::WrongLength)?;
-    let c = kind.channel().encode(NO_IDENTITY, d)?;
-    Ok((c, kind.flags()))
+    check(d, lent == FOUR_BURSTS)?;
+    Ok((kind.channel().coded(NO_IDENTITY, d), kind.flags()))
 }
 
 impl Sender {
@@ -35,9 +36,10 @@ impl Sender {
         }
     }
 
-    /// Sends block n: bursts 4n to 4n+3, one after another; refusals in the order 1, 2, 7, 5.
-    pub fn send(&mut self, d: &[u8]) -> Result<Vec<u8>, Refusal> {
-        let (c, flags) = coded(d)?;
+    /// Sends block n: bursts 4n to 4n+3, one after another, written to so many lent bytes; refusals
+    /// in the order 1, 2, 7, 5.
+    pub fn send(&mut self, d: &[u8], lent: usize) -> Result<Vec<u8>, Refusal> {
+        let (c, flags) = coded(d, lent)?;
         if self.ended {
             return Err(Refusal::Ended);
         }
@@ -53,8 +55,11 @@ impl Sender {
         Ok(self.four_bursts(4 * n))
     }
 
-    /// Ends the stream: the last four bursts; refusals in the order 7, 6.
-    pub fn end(&mut self) -> Result<Vec<u8>, Refusal> {
+    /// Ends the stream: the last four bursts, written to so many lent bytes; refusals in the order
+    /// 1, 7, 6.
+    pub fn end(&mut self, lent: usize) -> Result<Vec<u8>, Refusal> {
+        // Nothing is read.
+        check(&[], lent == FOUR_BURSTS)?;
         if self.ended {
             return Err(Refusal::Ended);
         }
@@ -76,9 +81,10 @@ pub fn sent_and_ended(blocks: &[Vec<u8>]) -> Vec<Vec<u8>> {
     let mut sender = Sender::fresh();
     let mut written = Vec::new();
     for d in blocks {
-        written.extend(sender.send(d).expect("a good block is sent"));
+        let sent = sender.send(d, FOUR_BURSTS);
+        written.extend(sent.expect("a good block is sent"));
     }
-    written.extend(sender.end().unwrap_or_default());
+    written.extend(sender.end(FOUR_BURSTS).unwrap_or_default());
     cut(&written)
 }
 
@@ -93,7 +99,7 @@ mod tests {
     fn after(number: usize) -> Sender {
         let mut sender = Sender::fresh();
         for _ in 0..number {
-            assert_eq!(sender.send(&[0; 260]).unwrap().len(), 464);
+            assert_eq!(sender.send(&[0; 260], 464).unwrap().len(), 464);
         }
         sender
     }
@@ -118,7 +124,7 @@ mod tests {
         let blocks = blocks(62, "sfsfs");
         let mut i = vec![vec![0; 114]; 24];
         for n in 0..5 {
-            let (c, _) = coded(&blocks[n]).unwrap();
+            let (c, _) = coded(&blocks[n], 464).unwrap();
             for k in 0..=455 {
                 let (burst, place) = burst_and_place(k, 8);
                 i[4 * n + burst][place] += c[k];
@@ -186,7 +192,7 @@ mod tests {
         let mut sender = Sender::fresh();
         for length in [0, 1, 183, 185, 259, 261, 444, 456] {
             assert_eq!(
-                sender.send(&vec![2; length]),
+                sender.send(&vec![2; length], 464),
                 Err(WrongLength),
                 "{}",
                 length
@@ -196,30 +202,46 @@ mod tests {
             for place in [0, length - 1] {
                 let mut d = vec![1; length];
                 d[place] = 2;
-                assert_eq!(sender.send(&d), Err(NotABit), "{}", length);
+                assert_eq!(sender.send(&d, 464), Err(NotABit), "{}", length);
             }
         }
         assert_eq!(sender.blocks, 0);
     }
 
     #[test]
+    fn another_length_lent_is_refused_first() {
+        for mut sender in [Sender::fresh(), after(1)] {
+            for lent in [0, 1, 116, 260, 456, 463, 465, 600] {
+                for d in [[0; 260], [2; 260]] {
+                    assert_eq!(sender.send(&d, lent), Err(WrongLength));
+                }
+                assert_eq!(sender.end(lent), Err(WrongLength));
+            }
+        }
+        let mut ended = after(1);
+        assert!(ended.end(464).is_ok());
+        assert_eq!(ended.send(&[0; 260], 463), Err(WrongLength));
+        assert_eq!(ended.end(463), Err(WrongLength));
+    }
+
+    #[test]
     fn end_needs_a_block() {
         let mut sender = Sender::fresh();
-        assert_eq!(sender.end(), Err(NothingSent));
-        assert_eq!(sender.end(), Err(NothingSent));
-        assert!(sender.send(&[1; 184]).is_ok());
-        assert!(sender.end().is_ok());
+        assert_eq!(sender.end(464), Err(NothingSent));
+        assert_eq!(sender.end(464), Err(NothingSent));
+        assert!(sender.send(&[1; 184], 464).is_ok());
+        assert!(sender.end(464).is_ok());
     }
 
     #[test]
     fn after_end_1_and_2_come_before_7() {
         let mut sender = after(1);
-        assert!(sender.end().is_ok());
-        assert_eq!(sender.send(&[2; 183]), Err(WrongLength));
-        assert_eq!(sender.send(&[2; 184]), Err(NotABit));
-        assert_eq!(sender.send(&[0; 184]), Err(Ended));
-        assert_eq!(sender.send(&[0; 260]), Err(Ended));
-        assert_eq!(sender.end(), Err(Ended));
+        assert!(sender.end(464).is_ok());
+        assert_eq!(sender.send(&[2; 183], 464), Err(WrongLength));
+        assert_eq!(sender.send(&[2; 184], 464), Err(NotABit));
+        assert_eq!(sender.send(&[0; 184], 464), Err(Ended));
+        assert_eq!(sender.send(&[0; 260], 464), Err(Ended));
+        assert_eq!(sender.end(464), Err(Ended));
     }
 
     #[test]
@@ -227,28 +249,30 @@ mod tests {
         let blocks = blocks(63, "sfsf");
         let mut sender = Sender::fresh();
         let mut written = Vec::new();
-        assert_eq!(sender.end(), Err(NothingSent));
+        assert_eq!(sender.end(464), Err(NothingSent));
         for d in &blocks {
-            assert_eq!(sender.send(&d[1..]), Err(WrongLength));
-            assert_eq!(sender.send(&[9; 260]), Err(NotABit));
-            written.extend(sender.send(d).unwrap());
+            assert_eq!(sender.send(&d[1..], 464), Err(WrongLength));
+            assert_eq!(sender.send(d, 465), Err(WrongLength));
+            assert_eq!(sender.end(0), Err(WrongLength));
+            assert_eq!(sender.send(&[9; 260], 464), Err(NotABit));
+            written.extend(sender.send(d, 464).unwrap());
         }
-        written.extend(sender.end().unwrap());
+        written.extend(sender.end(464).unwrap());
         assert_eq!(written, sent_and_ended(&blocks).concat());
     }
 
     #[test]
     fn the_16383rd_block_is_sent_and_the_next_gets_5() {
         let mut sender = after(16_382);
-        assert!(sender.send(&[1; 184]).is_ok());
-        assert_eq!(sender.send(&[1; 184]), Err(StreamFull));
-        assert_eq!(sender.send(&[0; 260]), Err(StreamFull));
-        assert_eq!(sender.send(&[2; 260]), Err(NotABit));
-        assert_eq!(sender.send(&[]), Err(WrongLength));
+        assert!(sender.send(&[1; 184], 464).is_ok());
+        assert_eq!(sender.send(&[1; 184], 464), Err(StreamFull));
+        assert_eq!(sender.send(&[0; 260], 464), Err(StreamFull));
+        assert_eq!(sender.send(&[2; 260], 464), Err(NotABit));
+        assert_eq!(sender.send(&[], 464), Err(WrongLength));
         // End is allowed at 16,383 blocks; then 7 comes before 5.
-        assert_eq!(sender.end().unwrap().len(), 464);
+        assert_eq!(sender.end(464).unwrap().len(), 464);
         assert_eq!(sender.bursts.len(), 65_536);
-        assert_eq!(sender.send(&[0; 260]), Err(Ended));
-        assert_eq!(sender.end(), Err(Ended));
+        assert_eq!(sender.send(&[0; 260], 464), Err(Ended));
+        assert_eq!(sender.end(464), Err(Ended));
     }
 }
