@@ -10,6 +10,7 @@
 //! reference make-views SEED COUNT      prints COUNT kit lines for the trellis view
 //! reference make-lessons SEED COUNT    prints COUNT kit lines of lessons, each on fresh streams
 //! reference make-stream SEED BLOCKS    prints the kit lines of one stream of BLOCKS blocks
+//! reference make-lend SEED COUNT       prints COUNT kit lines, most of which lend a buffer
 //! reference make-full SEED             prints the kit lines of one stream of 16,383 blocks
 //! reference make-sheet SEED COUNT      prints COUNT access sheet lines
 //!
@@ -138,7 +139,7 @@ mod tests {
     }
 
     #[test]
-    fn the_ten_commands_are_known() {
+    fn the_eleven_commands_are_known() {
         assert!(matches!(task_of("answer"), Some(Task::Answer)));
         assert!(matches!(task_of("sheet"), Some(Task::Sheet)));
         assert!(matches!(task_of("examples"), Some(Task::Examples)));
@@ -147,6 +148,7 @@ mod tests {
         makes("make-views 6 400", "make-views", 6, 400);
         makes("make-lessons 5 500", "make-lessons", 5, 500);
         makes("make-stream 4 600", "make-stream", 4, 600);
+        makes("make-lend 2 700", "make-lend", 2, 700);
         makes("make-full 3", "make-full", 3, 0);
         makes("make-sheet 8 200", "make-sheet", 8, 200);
     }
@@ -155,7 +157,7 @@ mod tests {
     fn the_usage_names_them() {
         let words = "usage: reference answer | sheet | examples | make-lines SEED COUNT | \
             make-received SEED COUNT | make-views SEED COUNT | make-lessons SEED COUNT | \
-            make-stream SEED BLOCKS | make-full SEED | make-sheet SEED COUNT";
+            make-stream SEED BLOCKS | make-lend SEED COUNT | make-full SEED | make-sheet SEED COUNT";
         assert_eq!(usage(), words);
     }
 

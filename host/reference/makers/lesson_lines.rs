@@ -95,6 +95,7 @@ fn beyond(random: &mut Random, lesson: &mut Lesson, number: usize) -> Vec<Vec<u8
 mod tests {
     use super::*;
     use crate::kit::answers;
+    use crate::makers::sorts::streams_are_left_by_the_refused;
 
     /// The answer's word with the number of a refusal; "sent" for a run of bits of a stream.
     fn sort(answer: &str) -> String {
@@ -168,18 +169,7 @@ mod tests {
     #[test]
     fn refused_calls_leave_the_streams() {
         let lines = lessons(&mut Random::new(87), 1500);
-        let with = answers(&lines);
-        // Blocks found bad have their burst taken; the others with a no leave all as before.
-        let done = |answer: &str| match sort(answer).as_str() {
-            "?" => false,
-            "refused 8" | "refused 9" => true,
-            sort => !sort.starts_with("refused"),
-        };
-        let kept: Vec<usize> = (0..lines.len()).filter(|&k| done(&with[k])).collect();
-        let lines: Vec<Vec<u8>> = kept.iter().map(|&k| lines[k].clone()).collect();
-        let expected: Vec<String> = kept.iter().map(|&k| with[k].clone()).collect();
-        assert!(lines.len() > 800);
-        assert_eq!(answers(&lines), expected);
+        streams_are_left_by_the_refused(&lines, 800);
     }
 
     #[test]

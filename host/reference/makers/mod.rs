@@ -2,6 +2,7 @@
 
 mod fields;
 mod full_lines;
+mod lend_lines;
 mod lesson;
 mod lesson_lines;
 mod received_lines;
@@ -25,7 +26,7 @@ pub struct Maker {
 }
 
 /// All makers.
-pub static MAKERS: [Maker; 7] = [
+pub static MAKERS: [Maker; 8] = [
     Maker {
         mode: "make-lines",
         numbers: "SEED COUNT",
@@ -50,6 +51,11 @@ pub static MAKERS: [Maker; 7] = [
         mode: "make-stream",
         numbers: "SEED BLOCKS",
         lines: lesson_lines::stream,
+    },
+    Maker {
+        mode: "make-lend",
+        numbers: "SEED COUNT",
+        lines: lend_lines::lines,
     },
     Maker {
         mode: "make-full",

@@ -18,7 +18,7 @@ pub fn line(random: &mut Random) -> Vec<u8> {
         75..=79 => any(random).wrong_length(random, change_length),
         80..=83 => any(random).wrong_bits(random),
         84 => wrong_flag(random),
-        85..=86 => decoded(random, &ACCESS).high_identity(random),
+        85..=86 => high_identity(random),
         87..=88 => decoded(random, &ACCESS).bad_number(random),
         89..=91 => several_wrong(random),
         92..=93 => wrong_word(random),
@@ -157,6 +157,11 @@ fn wrong_flag(random: &mut Random) -> Vec<u8> {
     request.line()
 }
 
+/// Refusal 3: an identity over 63.
+pub fn high_identity(random: &mut Random) -> Vec<u8> {
+    decoded(random, &ACCESS).high_identity(random)
+}
+
 /// Two or three things wrong at once, in access requests more than in others.
 fn several_wrong(random: &mut Random) -> Vec<u8> {
     let any = random.pick(&CHANNELS);
@@ -210,7 +215,6 @@ mod tests {
     fn each_wrong_sort_is_wrong_as_meant() {
         let wrong_length = |random: &mut Random| any(random).wrong_length(random, change_length);
         let wrong_bits = |random: &mut Random| any(random).wrong_bits(random);
-        let high_identity = |random: &mut Random| decoded(random, &ACCESS).high_identity(random);
         let bad_number = |random: &mut Random| decoded(random, &ACCESS).bad_number(random);
         all_are(41, 1000, wrong_length, "refused 1");
         all_are(41, 1000, sending_word, "refused 1");

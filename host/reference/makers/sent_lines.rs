@@ -12,7 +12,7 @@ pub fn line(random: &mut Random) -> Vec<u8> {
         0..=59 => any(random).line(),
         60..=66 => any(random).wrong_length(random, change_length),
         67..=73 => any(random).wrong_bits(random),
-        74..=77 => valid(random, &ACCESS).high_identity(random),
+        74..=77 => high_identity(random),
         78..=81 => valid(random, &ACCESS).bad_number(random),
         82..=86 => several_wrong(random),
         87..=89 => wrong_word(random),
@@ -56,6 +56,11 @@ fn another_length(random: &mut Random, right: usize) -> usize {
 fn change_length(random: &mut Random, request: &mut Request) {
     let length = another_length(random, request.bits.len());
     request.bits = fields::good_bits(random, length);
+}
+
+/// Refusal 3: an identity over 63.
+pub fn high_identity(random: &mut Random) -> Vec<u8> {
+    valid(random, &ACCESS).high_identity(random)
 }
 
 /// Two or three things wrong at once, in access requests more than in others.
@@ -128,7 +133,6 @@ mod tests {
     fn each_wrong_sort_is_wrong_as_meant() {
         let wrong_length = |random: &mut Random| any(random).wrong_length(random, change_length);
         let wrong_bits = |random: &mut Random| any(random).wrong_bits(random);
-        let high_identity = |random: &mut Random| valid(random, &ACCESS).high_identity(random);
         let bad_number = |random: &mut Random| valid(random, &ACCESS).bad_number(random);
         all_are(9, 2000, wrong_length, "refused 1");
         all_are(9, 2000, wrong_bits, "refused 2");
