@@ -1,4 +1,7 @@
-# 01's handbook examples that are run and not proved, as kit lines: LINE => ANSWER, the answers typed from the paper. Sourced, by POSIX sh.
+# 01's handbook examples that are run and not proved, and what its table of refusals says of a lent buffer, as kit lines:
+# LINE => ANSWER, the answers typed from the paper. Sourced, by POSIX sh.
+
+sevens() { zeros "$1" | tr 0 7; } # COUNT
 
 handbook() {
     say "speech? $(zeros 456) => refused 8 0"
@@ -15,6 +18,25 @@ handbook() {
     say "access 63 $(zeros 8) => $(zeros 36)"
     say "access 64 $(zeros 8) => refused 3"
     say "access? 64 $(zeros 36) => refused 3"
+}
+
+# A call that is done writes every byte, a refusal leaves all as before; a buffer of another length comes before the others.
+lent_buffers() {
+    say "lend 36 7 access 63 $(zeros 8) => done $(zeros 36)"
+    say "lend 35 7 access 63 $(zeros 8) => refused 1 $(sevens 35)"
+    say "lend 37 7 access 64 2 => refused 1 $(sevens 37)"
+    say "lend 36 7 access 64 2$(zeros 7) => refused 2 $(sevens 36)"
+    say "lend 36 7 access 64 $(zeros 8) => refused 3 $(sevens 36)"
+    say "lend 8 7 access? 63 $(zeros 36) => 0 $(zeros 8)"
+    say "lend 8 7 access? 62 $(zeros 36) => refused 8 0 $(sevens 8)"
+    say "lend 184 7 control? $(zeros 456) => refused 8 0 $(sevens 184)"
+    # End with no block sent, and bursts of a stream
+    say "lend 0 7 end => refused 1 -"
+    say "lend 464 7 end => refused 6 $(sevens 464)"
+    say "lend 261 7 take 0 $(zeros 116) => refused 1 $(sevens 261)"
+    say "lend 260 7 take 1 $(zeros 116) => refused 4 $(sevens 260)"
+    say "lend 260 7 take 0 $(zeros 116) => waiting $(sevens 260)"
+    say "lend 600 7 fresh => ?"
 }
 
 # The eight bursts of a stream of one block of speech, all zeros, with the first COUNT of its flags altered, as lines that take them.
