@@ -1,5 +1,5 @@
-# The desk program beside the independent reference, and on hostile input. Sourced by POSIX sh after host/setup.sh, where good and
-# bad tell of what passed and what failed.
+# The desk program beside the independent reference, and on hostile input; the C host that passes identities of several types.
+# Sourced by POSIX sh after host/setup.sh, where good and bad tell of what passed and what failed.
 
 # The desk program's answers in the kit's words, which are the reference's.
 in_kit_words() {
@@ -36,9 +36,11 @@ compare_desk() { # DESK REFERENCE ROOM MAKER SEED COUNT
     fi
 }
 
-# Lines that only the desk reads, each with one of the same meaning that the kit reads too.
+# Lines that mostly the desk alone reads, each with one of the same meaning that the kit reads too. In their lowest bits some of the
+# identities are 0, 7 or 63.
 twin_lines() {
-    for identity in 65536 65599 99999 4294967296 4294967359 18446744073709551616 18446744073709551679 "1$(zeros 5000)"; do
+    for identity in 255 256 263 65536 65599 99999 4294967296 4294967303 4294967359 18446744073709551615 18446744073709551616 \
+        18446744073709551623 18446744073709551679 "1$(zeros 5000)"; do
         for bits in 00000000 0000000x 00000002 000000000 2 ''; do say "access $identity $bits|access 64 $bits"; done
         for bits in "$(zeros 36)" "$(zeros 35)2" "$(zeros 37)"; do say "access? $identity $bits|access? 64 $bits"; done
     done
@@ -107,6 +109,16 @@ hostile_desk() { # DESK REFERENCE ROOM NAME
         good "desk on $4 input"
     else
         bad "desk on $4 input (exit $status)"
+    fi
+}
+
+# Identities of several types of C.
+check_widths() { # WIDTHS ROOM
+    if [ -x "$1" ] && run_host "$1" >"$2/said" 2>&1; then
+        good "desk: $(cat "$2/said")"
+    else
+        if [ -x "$1" ]; then cat "$2/said"; else cat "$1.log" 2>&1; fi
+        bad "desk on identities of several types of C"
     fi
 }
 

@@ -15,10 +15,9 @@
 #include "desk.h"
 
 enum {
-    FIELDS = 3,   /* the most that a line is made of */
-    ROOM = 1024,  /* how much of a field is kept; a longer one is too long for every call, and stays so when it is cut */
-    OVER_1 = 2,   /* stands for a character that is no bit, and the library refuses it */
-    HIGHEST = 255 /* stands for every larger identity too, and the library refuses it */
+    FIELDS = 3,  /* the most that a line is made of */
+    ROOM = 1024, /* how much of a field is kept; a longer one is too long for every call, and stays so when it is cut */
+    OVER_1 = 2   /* stands for a character that is no bit, and the library refuses it */
 };
 
 static const char usage[] = "? write one of: access ID BITS, access? ID BITS, control BITS, control? BITS";
@@ -28,7 +27,7 @@ struct field {
     size_t length; /* of what is kept */
     unsigned char bytes[ROOM];
     bool is_number; /* digits alone, at least one */
-    unsigned value; /* of the number */
+    uint64_t value; /* of the number; the highest stands for every larger one too */
 };
 
 struct line {
@@ -39,7 +38,7 @@ struct line {
 /* A word and the call that it asks for: access has the identity before its bits, and control has none. */
 struct verb {
     const char *word;
-    uint32_t (*access)(uint8_t, const uint8_t *, size_t, uint8_t *, size_t);
+    uint32_t (*access)(uint64_t, const uint8_t *, size_t, uint8_t *, size_t);
     uint32_t (*control)(const uint8_t *, size_t, uint8_t *, size_t);
     size_t reads;
     size_t writes;
@@ -53,6 +52,12 @@ static const struct verb verbs[] = {
     {"control?", NULL, desk_receive_control, DESK_CONTROL_CODED_BITS, DESK_CONTROL_BITS, true},
 };
 
+/* A number with one more digit; where there is no room for it, the highest. */
+static uint64_t with_digit(uint64_t value, unsigned digit)
+{
+    return value <= (UINT64_MAX - digit) / 10 ? 10 * value + digit : UINT64_MAX;
+}
+
 /* Adds a byte to the number of a field, which it stays as long as there are digits alone. */
 static void add_digit(struct field *field, int byte)
 {
@@ -60,10 +65,7 @@ static void add_digit(struct field *field, int byte)
 
     field->is_number = is_digit && (field->length == 0 || field->is_number);
     if (field->is_number) {
-        field->value = 10 * field->value + (unsigned)(byte - '0');
-    }
-    if (field->value > HIGHEST) {
-        field->value = HIGHEST;
+        field->value = with_digit(field->value, (unsigned)(byte - '0'));
     }
 }
 
@@ -173,7 +175,7 @@ static void print_refusal(const struct verb *verb, uint32_t answer)
 }
 
 /* Makes the call that the verb asks for, and prints its answer. */
-static void call(const struct verb *verb, uint8_t identity, const struct field *field)
+static void call(const struct verb *verb, uint64_t identity, const struct field *field)
 {
     uint8_t in[ROOM] = {0};
     uint8_t out[DESK_CONTROL_CODED_BITS];
@@ -202,7 +204,7 @@ static void answer_line(const struct line *line)
         return;
     }
     /* Control has its bits where access has its identity, and looks at no identity. */
-    call(verb, (uint8_t)line->field[1].value, &line->field[line->fields - 1]);
+    call(verb, line->field[1].value, &line->field[line->fields - 1]);
 }
 
 int main(void)

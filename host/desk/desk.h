@@ -6,6 +6,9 @@
  * else is asked of the caller: every length, every byte and every identity has its answer. A call keeps nothing for the
  * next one, takes no memory of its own but the stack, and never changes the buffer that it reads.
  *
+ * An identity is passed in 64 bits, so that the number that you have arrives as it is: 263 is not cut to 7, and a negative int
+ * is far over 63. Every identity over 63 is refused with 3.
+ *
  * Each call answers one number, 65536 times the refusal and then the count; desk_number and desk_count take it apart.
  * Where the number is 0, the call has written every byte of its output buffer. Where it is a refusal, every byte of the
  * output buffer is what it was before. What stands in the output buffer before the call is never looked at.
@@ -55,7 +58,7 @@ static inline uint32_t desk_count(uint32_t answer)
  * Reads 8 bits from d and, if the number is 0, writes the 36 coded bits to e.
  * The number is 0, 1, 2 or 3. The count is 0.
  */
-uint32_t desk_send_access(uint8_t identity, const uint8_t *d, size_t d_len, uint8_t *e, size_t e_len);
+uint32_t desk_send_access(uint64_t identity, const uint8_t *d, size_t d_len, uint8_t *e, size_t e_len);
 
 /*
  * Receives an access burst as the base station of this identity.
@@ -65,7 +68,7 @@ uint32_t desk_send_access(uint8_t identity, const uint8_t *d, size_t d_len, uint
  * Up to three altered bits are always repaired: then the count is how many were altered, and only the identity that the
  * burst was sent to takes it.
  */
-uint32_t desk_receive_access(uint8_t identity, const uint8_t *e, size_t e_len, uint8_t *d, size_t d_len);
+uint32_t desk_receive_access(uint64_t identity, const uint8_t *e, size_t e_len, uint8_t *d, size_t d_len);
 
 /*
  * Sends a control block.

@@ -22,20 +22,25 @@ use model::coding::convolve;
 mod library {
     #[link(name = "desk", kind = "static")]
     extern "C" {
-        fn desk_send_access(id: u8, d: *const u8, d_len: usize, e: *mut u8, e_len: usize) -> u32;
-        fn desk_receive_access(id: u8, e: *const u8, e_len: usize, d: *mut u8, d_len: usize)
-            -> u32;
+        fn desk_send_access(id: u64, d: *const u8, d_len: usize, e: *mut u8, e_len: usize) -> u32;
+        fn desk_receive_access(
+            id: u64,
+            e: *const u8,
+            e_len: usize,
+            d: *mut u8,
+            d_len: usize,
+        ) -> u32;
         fn desk_send_control(d: *const u8, d_len: usize, c: *mut u8, c_len: usize) -> u32;
         fn desk_receive_control(c: *const u8, c_len: usize, d: *mut u8, d_len: usize) -> u32;
     }
 
-    pub fn send_access(identity: u8, d: &[u8], e: &mut [u8]) -> u32 {
+    pub fn send_access(identity: u64, d: &[u8], e: &mut [u8]) -> u32 {
         // SAFETY: each address comes with the length of its own slice, no slice has a null address,
         // and a slice that is written overlaps no other.
         unsafe { desk_send_access(identity, d.as_ptr(), d.len(), e.as_mut_ptr(), e.len()) }
     }
 
-    pub fn receive_access(identity: u8, e: &[u8], d: &mut [u8]) -> u32 {
+    pub fn receive_access(identity: u64, e: &[u8], d: &mut [u8]) -> u32 {
         // SAFETY: as in send_access.
         unsafe { desk_receive_access(identity, e.as_ptr(), e.len(), d.as_mut_ptr(), d.len()) }
     }
@@ -57,7 +62,7 @@ struct Call {
     name: &'static str,
     channel: Channel,
     sends: bool,
-    library: fn(u8, &[u8], &mut [u8]) -> u32,
+    library: fn(u64, &[u8], &mut [u8]) -> u32,
 }
 
 const SEND_ACCESS: Call = Call {
@@ -106,8 +111,7 @@ impl Call {
     }
 
     /// What the reference makes of an input for so many lent bytes; a send counts nothing.
-    fn reference(&self, identity: u8, input: &[u8], lent: usize) -> Received {
-        let identity = u16::from(identity);
+    fn reference(&self, identity: u64, input: &[u8], lent: usize) -> Received {
         if self.sends {
             let sent = self.channel.encode(identity, input, lent)?;
             Ok((0, sent))
@@ -117,7 +121,7 @@ impl Call {
     }
 
     /// A random block that is sent or received well, and the identity for it.
-    fn good_input(&self, random: &mut Random) -> (u8, Vec<u8>) {
+    fn good_input(&self, random: &mut Random) -> (u64, Vec<u8>) {
         let (identity, d, sent) = block(random, &self.channel);
         (identity, if self.sends { d } else { sent })
     }
@@ -158,7 +162,7 @@ fn framed(bytes: &[u8]) -> Vec<u8> {
 }
 
 /// What the library makes of an input and of a buffer that holds these bytes before.
-fn outcome(call: &Call, identity: u8, input: &[u8], before: &[u8]) -> Outcome {
+fn outcome(call: &Call, identity: u64, input: &[u8], before: &[u8]) -> Outcome {
     let (read, mut lent) = (framed(input), framed(before));
     let (first, last) = (MARGIN + input.len(), MARGIN + before.len());
     let answer = (call.library)(identity, &read[MARGIN..first], &mut lent[MARGIN..last]);
@@ -173,7 +177,7 @@ fn outcome(call: &Call, identity: u8, input: &[u8], before: &[u8]) -> Outcome {
 }
 
 /// What the reference makes of them.
-fn expected(call: &Call, identity: u8, input: &[u8], before: &[u8]) -> Outcome {
+fn expected(call: &Call, identity: u64, input: &[u8], before: &[u8]) -> Outcome {
     match call.reference(identity, input, before.len()) {
         Ok((count, bits)) => good(count, &bits),
         Err(refusal) => refused(refusal.number(), refusal.count().unwrap_or(0), before),
@@ -186,14 +190,21 @@ fn noise(random: &mut Random, length: usize) -> Vec<u8> {
 }
 
 /// The library makes this of an input, whatever non-bits the buffer holds before.
-fn gives(random: &mut Random, call: &Call, identity: u8, input: &[u8], count: usize, d: &[u8]) {
+fn gives(random: &mut Random, call: &Call, identity: u64, input: &[u8], count: usize, d: &[u8]) {
     let before = noise(random, call.writes());
     let got = outcome(call, identity, input, &before);
     assert_eq!(got, good(count, d), "{} {}", call.name, identity);
 }
 
 /// The library refuses an input and leaves the buffer.
-fn refuses(random: &mut Random, call: &Call, identity: u8, input: &[u8], number: u8, count: usize) {
+fn refuses(
+    random: &mut Random,
+    call: &Call,
+    identity: u64,
+    input: &[u8],
+    number: u8,
+    count: usize,
+) {
     let before = noise(random, call.writes());
     let got = outcome(call, identity, input, &before);
     let want = refused(number, count, &before);
@@ -201,7 +212,7 @@ fn refuses(random: &mut Random, call: &Call, identity: u8, input: &[u8], number:
 }
 
 /// The library and the reference make the same of an input.
-fn agrees(random: &mut Random, call: &Call, identity: u8, input: &[u8]) {
+fn agrees(random: &mut Random, call: &Call, identity: u64, input: &[u8]) {
     let before = noise(random, call.writes());
     assert_eq!(
         outcome(call, identity, input, &before),
@@ -214,20 +225,38 @@ fn agrees(random: &mut Random, call: &Call, identity: u8, input: &[u8]) {
 }
 
 /// A random identity of a base station.
-fn any_identity(random: &mut Random) -> u8 {
-    random.below(64) as u8
+fn any_identity(random: &mut Random) -> u64 {
+    random.below(64) as u64
+}
+
+/// Identities that more than a byte is needed for. Some of them are 0 or 7 to one who keeps six,
+/// eight or thirty-two bits; the negative ones are as C passes an int.
+fn wide_identities() -> Vec<u64> {
+    let large = [256, 263, 1 << 32, (1 << 32) + 7, 1 << 63, u64::MAX];
+    let negative = [-1, -7, 7 - 64, 7 - 256, i32::MIN];
+    let passed = negative.map(|identity| i64::from(identity) as u64);
+    large.into_iter().chain(passed).collect()
+}
+
+/// Any number in the place of an identity, often one over 63.
+fn any_number(random: &mut Random) -> u64 {
+    if random.one_in(4) {
+        random.pick(&wide_identities())
+    } else {
+        random.below(256) as u64
+    }
 }
 
 /// A random block of a channel: an identity, its bits, the bits that are sent.
-fn block(random: &mut Random, channel: &Channel) -> (u8, Vec<u8>, Vec<u8>) {
+fn block(random: &mut Random, channel: &Channel) -> (u64, Vec<u8>, Vec<u8>) {
     let identity = any_identity(random);
     let d = random_bits(random, channel.reads);
-    let sent = channel.encode(u16::from(identity), &d, channel.writes);
+    let sent = channel.encode(identity, &d, channel.writes);
     (identity, d, sent.unwrap())
 }
 
 /// A random access block: its identity, its bits, its coded bits.
-fn access_block(random: &mut Random) -> (u8, Vec<u8>, Vec<u8>) {
+fn access_block(random: &mut Random) -> (u64, Vec<u8>, Vec<u8>) {
     block(random, &ACCESS)
 }
 
@@ -265,7 +294,7 @@ fn every_access_block_is_sent_and_comes_back() {
     for identity in 0..64 {
         for number in 0..256 {
             let d = bits_of(number, 8);
-            let e = ACCESS.encode(u16::from(identity), &d, 36).unwrap();
+            let e = ACCESS.encode(identity, &d, 36).unwrap();
             gives(&mut random, &SEND_ACCESS, identity, &d, 0, &e);
             gives(&mut random, &RECEIVE_ACCESS, identity, &e, 0, &d);
         }
@@ -292,7 +321,7 @@ fn access_is_repaired_wherever_up_to_three_bits_are_altered() {
     for altered in up_to_three_of(36) {
         let (identity, d, e) = access_block(&mut random);
         let (damaged, count) = (turned(&e, &altered), altered.len());
-        let other = (identity + 1 + random.below(63) as u8) % 64;
+        let other = (identity + 1 + random.below(63) as u64) % 64;
         gives(&mut random, &RECEIVE_ACCESS, identity, &damaged, count, &d);
         refuses(&mut random, &RECEIVE_ACCESS, other, &damaged, 8, count);
     }
@@ -418,7 +447,7 @@ fn wrong_lengths(right: usize) -> Vec<usize> {
 
 /// The call refuses these lengths, whether the input holds bits or none.
 fn refuses_lengths(random: &mut Random, call: &Call, reads: usize, writes: usize) {
-    let identity = random.below(256) as u8;
+    let identity = any_number(random);
     let before = noise(random, writes);
     for input in [random_bits(random, reads), noise(random, reads)] {
         let got = outcome(call, identity, &input, &before);
@@ -466,7 +495,7 @@ fn a_byte_over_1_is_refused_at_each_index() {
             for wrong in [2, 3, 127, 128, 129, 254, 255, any] {
                 let mut input = random_bits(&mut random, call.reads());
                 input[k] = wrong;
-                let identity = random.below(256) as u8;
+                let identity = any_number(&mut random);
                 refuses(&mut random, call, identity, &input, 2, 0);
             }
         }
@@ -494,10 +523,17 @@ fn every_byte_over_1_is_refused() {
     }
 }
 
+/// Numbers that are this identity in their lowest bits, the last of them as C passes a negative int.
+fn over_63(own: u64) -> Vec<u64> {
+    let more = [64, 128, 192, 1 << 8, 1 << 16, 1 << 32, 1 << 63];
+    let passed = more.map(|more| own + more);
+    passed.into_iter().chain([own.wrapping_sub(64)]).collect()
+}
+
 #[test]
 fn identities_over_63_are_refused() {
     let mut random = Random::new(116);
-    for identity in 0..=255 {
+    for identity in (0..=255).chain(wide_identities()) {
         let (own, d, e) = access_block(&mut random);
         if identity > 63 {
             refuses(&mut random, &SEND_ACCESS, identity, &d, 3, 0);
@@ -506,9 +542,11 @@ fn identities_over_63_are_refused() {
             agrees(&mut random, &SEND_ACCESS, identity, &d);
             agrees(&mut random, &RECEIVE_ACCESS, identity, &e);
         }
-        // Neither does the identity that it was sent to help.
-        let high = own + 64 * (1 + random.below(3) as u8);
-        refuses(&mut random, &RECEIVE_ACCESS, high, &e, 3, 0);
+        // Neither does the identity that it was sent to help, in the lowest bits of another.
+        for high in over_63(own) {
+            refuses(&mut random, &SEND_ACCESS, high, &d, 3, 0);
+            refuses(&mut random, &RECEIVE_ACCESS, high, &e, 3, 0);
+        }
     }
 }
 
@@ -529,20 +567,37 @@ fn lowest(length: bool, bits: bool, identity: bool) -> Option<u8> {
     wrongs.iter().find(|wrong| wrong.0).map(|wrong| wrong.1)
 }
 
+/// Of a good input the call gives the lowest number of what is then wrong: the length that is read,
+/// the length that is lent, the bits, or the identity.
+fn gives_the_lowest(
+    random: &mut Random,
+    call: &Call,
+    good: &[u8],
+    wrong: [bool; 3],
+    identity: u64,
+) {
+    let [read, lent, bits] = wrong;
+    let mut input = good.to_vec();
+    spoil(random, &mut input, read, bits);
+    let before = noise(random, call.writes() + usize::from(lent));
+    let got = outcome(call, identity, &input, &before);
+    let high = identity > 63 && call.channel.has_identity;
+    match lowest(read || lent, bits, high) {
+        Some(number) => assert_eq!(got, refused(number, 0, &before), "{}", call.name),
+        None => assert_eq!(got, expected(call, identity, &input, &before)),
+    }
+}
+
 #[test]
 fn of_several_refusals_the_lowest_is_given() {
     let mut random = Random::new(117);
     for call in &CALLS {
-        for ways in 0..16 {
-            let [read, lent, bits, high] = [1, 2, 4, 8].map(|way| ways & way != 0);
-            let (own, mut input) = call.good_input(&mut random);
-            spoil(&mut random, &mut input, read, bits);
-            let before = noise(&mut random, call.writes() + usize::from(lent));
-            let identity = own + 64 * u8::from(high);
-            let got = outcome(call, identity, &input, &before);
-            match lowest(read || lent, bits, high && call.channel.has_identity) {
-                Some(number) => assert_eq!(got, refused(number, 0, &before), "{}", call.name),
-                None => assert_eq!(got, expected(call, identity, &input, &before)),
+        for ways in 0..8 {
+            let wrong = [1, 2, 4].map(|way| ways & way != 0);
+            let (own, input) = call.good_input(&mut random);
+            let identities = [vec![own], over_63(own), wide_identities()].concat();
+            for identity in identities {
+                gives_the_lowest(&mut random, call, &input, wrong, identity);
             }
         }
     }
@@ -572,7 +627,7 @@ fn a_call_keeps_nothing_for_the_next() {
         let first = outcome(call, identity, &input, &vec![2; call.writes()]);
         let between = &CALLS[random.below(4)];
         let wrong = noise(&mut random, between.reads());
-        refuses(&mut random, between, 255, &wrong, 2, 0);
+        refuses(&mut random, between, u64::MAX, &wrong, 2, 0);
         let again = outcome(call, identity, &input, &vec![255; call.writes()]);
         assert_eq!(first, again, "{}", call.name);
     }

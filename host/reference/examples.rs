@@ -45,7 +45,7 @@ fn numbers(bits: &[u8]) -> Vec<usize> {
 }
 
 /// The bits that are sent for information bits that are in order.
-fn sent(channel: &Channel, identity: u16, d: &[u8]) -> Vec<u8> {
+fn sent(channel: &Channel, identity: u64, d: &[u8]) -> Vec<u8> {
     let answer = channel.encode(identity, d, channel.writes);
     answer.expect("a good block is sent")
 }

@@ -72,7 +72,7 @@ fn of_channel(word: &[u8], arguments: &[&[u8]], lent: Option<usize>) -> Option<T
     let channel = channel::named(asked.unwrap_or(word))?;
     let (identity, list) = match arguments {
         [list] if !channel.has_identity => (NO_IDENTITY, bits(list)),
-        [identity, list] if channel.has_identity => (number(identity)?, bits(list)),
+        [identity, list] if channel.has_identity => (number(identity)?.into(), bits(list)),
         _ => return None,
     };
     Some(match asked {

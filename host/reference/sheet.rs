@@ -15,7 +15,7 @@ pub fn answer(line: &[u8]) -> String {
         return "?? refused 1".to_string();
     }
     let (tens, units) = (line[0] - b'0', line[1] - b'0');
-    let identity = u16::from(10 * tens + units);
+    let identity = u64::from(10 * tens + units);
     let answer = ACCESS.encode(identity, &bits(&line[3..]), ACCESS.writes);
     format!("{}{} {}", tens, units, sent(answer).plain())
 }

@@ -16,7 +16,7 @@ use std::process::ExitCode;
 use std::slice::from_ref;
 
 /// The base station of access; other channels look at no identity.
-const IDENTITY: u16 = 7;
+const IDENTITY: u64 = 7;
 
 /// Bits in no order that the coding knows.
 fn bits(length: usize) -> Vec<u8> {

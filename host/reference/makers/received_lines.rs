@@ -77,7 +77,7 @@ fn coded_list(random: &mut Random, channel: &Channel, sender: usize) -> Vec<u8> 
 /// The coded bits c of a random block.
 fn coded(random: &mut Random, channel: &Channel, sender: usize) -> Vec<u8> {
     let d = text::bits(&fields::good_bits(random, channel.reads));
-    channel.coded(sender as u16, &d)
+    channel.coded(sender as u64, &d)
 }
 
 /// Alters 0 to 20 bits; 0 to 3, 4 to 7 and more are all common.

@@ -10,7 +10,7 @@ use crate::model::refusal::{check, check_identity, Refusal};
 pub type Received = Result<(usize, Vec<u8>), Refusal>;
 
 /// What a channel that has no identity is called with; it is not looked at.
-pub const NO_IDENTITY: u16 = 0;
+pub const NO_IDENTITY: u64 = 0;
 
 /// A channel: one row of the table.
 #[derive(Clone, Copy)]
@@ -34,9 +34,9 @@ pub struct Channel {
     /// The eight flags of a block that is sent on four bursts; others are sent as they are coded.
     pub flags: Option<[u8; 8]>,
     /// The coded bits c of an identity and of d.
-    encoder: fn(&Channel, u16, &[u8]) -> Vec<u8>,
+    encoder: fn(&Channel, u64, &[u8]) -> Vec<u8>,
     /// The verdict on received bits c under an identity.
-    decoder: fn(&Channel, u16, &[u8]) -> Received,
+    decoder: fn(&Channel, u64, &[u8]) -> Received,
 }
 
 /// Speech, 3.1.2: g(D) = D^3 + D + 1, over d(0)..d(49)
@@ -123,7 +123,7 @@ impl Channel {
     }
 
     /// Refusals in the order 1, 2, 3.
-    fn check(&self, identity: u16, bits: &[u8], right_lengths: bool) -> Result<(), Refusal> {
+    fn check(&self, identity: u64, bits: &[u8], right_lengths: bool) -> Result<(), Refusal> {
         check(bits, right_lengths)?;
         if self.has_identity {
             check_identity(identity)?;
@@ -132,12 +132,12 @@ impl Channel {
     }
 
     /// The coded bits c of information bits d that are in order, before they are put on bursts.
-    pub fn coded(&self, identity: u16, d: &[u8]) -> Vec<u8> {
+    pub fn coded(&self, identity: u64, d: &[u8]) -> Vec<u8> {
         (self.encoder)(self, identity, d)
     }
 
     /// The bits that are sent for the information bits d, written to so many lent bytes.
-    pub fn encode(&self, identity: u16, d: &[u8], lent: usize) -> Result<Vec<u8>, Refusal> {
+    pub fn encode(&self, identity: u64, d: &[u8], lent: usize) -> Result<Vec<u8>, Refusal> {
         self.check(identity, d, d.len() == self.reads && lent == self.writes)?;
         let c = self.coded(identity, d);
         Ok(match self.flags {
@@ -148,7 +148,7 @@ impl Channel {
 
     /// The block that is received, written to so many lent bytes; the flags of four bursts must be
     /// bits, but are not used.
-    pub fn decode(&self, identity: u16, e: &[u8], lent: usize) -> Received {
+    pub fn decode(&self, identity: u64, e: &[u8], lent: usize) -> Received {
         self.check(identity, e, e.len() == self.writes && lent == self.reads)?;
         match self.flags {
             Some(_) => (self.decoder)(self, identity, &from_four_bursts(e)),
@@ -313,7 +313,7 @@ mod tests {
     fn identity_63_passes_and_64_is_refused() {
         assert!(ACCESS.encode(63, &[1; 8], 36).is_ok());
         assert!(ACCESS.decode(63, &[0; 36], 8).is_ok());
-        for identity in [64, 65_535] {
+        for identity in [64, 255, 256, 263, 65_535, 1 << 32, (1 << 32) + 7, u64::MAX] {
             assert_eq!(ACCESS.encode(identity, &[1; 8], 36), Err(WrongIdentity));
             assert_eq!(ACCESS.decode(identity, &[0; 36], 8), Err(WrongIdentity));
         }
@@ -324,7 +324,7 @@ mod tests {
         for channel in CHANNELS.iter().filter(|channel| !channel.has_identity) {
             let d = random_bits(&mut Random::new(39), channel.reads);
             let sent = channel.encode(NO_IDENTITY, &d, channel.writes).unwrap();
-            for identity in [1, 63, 64, 65_535] {
+            for identity in [1, 63, 64, 65_535, u64::MAX] {
                 assert_eq!(
                     channel.encode(identity, &d, channel.writes),
                     Ok(sent.clone())
@@ -361,7 +361,7 @@ mod tests {
     fn altered_block(
         random: &mut Random,
         channel: &Channel,
-        identity: u16,
+        identity: u64,
         altered: usize,
     ) -> (Vec<u8>, Vec<u8>) {
         let d = random_bits(random, channel.reads);
@@ -388,7 +388,7 @@ mod tests {
                     let e = received(&mut random, &channel, c);
                     let answer = channel.decode(identity, &e, channel.reads);
                     assert_eq!(answer, Ok((altered, d)), "{}", channel.name);
-                    let other = (identity + 1 + random.below(63) as u16) % 64;
+                    let other = (identity + 1 + random.below(63) as u64) % 64;
                     if channel.has_identity {
                         assert_eq!(
                             channel.decode(other, &e, channel.reads),

@@ -18,21 +18,21 @@ pub fn convolve(u: &[u8]) -> Vec<u8> {
 }
 
 /// b(0) is the highest bit of the identity, b(5) the lowest
-fn identity_bits(identity: u16) -> Vec<u8> {
+fn identity_bits(identity: u64) -> Vec<u8> {
     let values = [32, 16, 8, 4, 2, 1];
-    let bit = |value: &u16| ((identity / value) % 2) as u8;
+    let bit = |value: &u64| ((identity / value) % 2) as u8;
     values.iter().map(bit).collect()
 }
 
 /// C(k) = p(k) + b(k) for k = 0..5, and so p(k) = C(k) + b(k); without an identity, C is p
-pub fn add_identity(channel: &Channel, identity: u16, p: &mut [u8]) {
+pub fn add_identity(channel: &Channel, identity: u64, p: &mut [u8]) {
     if channel.has_identity {
         add(p, &identity_bits(identity));
     }
 }
 
 /// C(0), C(1), .. of the bits that the parity is over
-fn colour(channel: &Channel, identity: u16, d: &[u8]) -> Vec<u8> {
+fn colour(channel: &Channel, identity: u64, d: &[u8]) -> Vec<u8> {
     let mut p = parity(&d[..channel.covered], &(channel.generator)());
     add_identity(channel, identity, &mut p);
     p
@@ -54,7 +54,7 @@ fn speech_block(d: &[u8], p: &[u8]) -> Vec<u8> {
 }
 
 /// Speech, 3.1.2: class 1 is convolved; class 2 is c(378+k) = d(182+k) for k = 0..77
-pub fn speech(channel: &Channel, identity: u16, d: &[u8]) -> Vec<u8> {
+pub fn speech(channel: &Channel, identity: u64, d: &[u8]) -> Vec<u8> {
     let d = &d[..260];
     let mut c = convolve(&speech_block(d, &colour(channel, identity, d)));
     c.extend(&d[182..]);
@@ -65,7 +65,7 @@ pub fn speech(channel: &Channel, identity: u16, d: &[u8]) -> Vec<u8> {
 /// u(k) = 0 for k = 224..227
 /// Access, 4.6: u(k) = d(k) for k = 0..7, u(k) = C(k-8) for k = 8..13, u(k) = 0 for k = 14..17
 /// SCH, 4.7: u(k) = d(k) for k = 0..24, u(k) = p(k-25) for k = 25..34, u(k) = 0 for k = 35..38
-pub fn block(channel: &Channel, identity: u16, d: &[u8]) -> Vec<u8> {
+pub fn block(channel: &Channel, identity: u64, d: &[u8]) -> Vec<u8> {
     convolve(&[d, &colour(channel, identity, d), &[0, 0, 0, 0]].concat())
 }
 
@@ -76,7 +76,7 @@ mod tests {
     use crate::model::channel::{ACCESS, NO_IDENTITY, SPEECH};
 
     /// The colour bits of an access request.
-    fn access_colour(identity: u16, d: &[u8]) -> Vec<u8> {
+    fn access_colour(identity: u64, d: &[u8]) -> Vec<u8> {
         colour(&ACCESS, identity, d)
     }
 

@@ -10,7 +10,7 @@ use crate::model::survivors::Survivor;
 
 /// The count and d if the parity is good, else refusal 8 and the count; where the channel has an
 /// identity, p(k) = C(k) + b(k) with the receiver's.
-fn verdict(channel: &Channel, identity: u16, found: Survivor, d: Vec<u8>) -> Received {
+fn verdict(channel: &Channel, identity: u64, found: Survivor, d: Vec<u8>) -> Received {
     let (first, number) = channel.parity;
     let mut p = found.u[first..first + number].to_vec();
     add_identity(channel, identity, &mut p);
@@ -37,7 +37,7 @@ fn speech_bits(u: &[u8], c: &[u8]) -> Vec<u8> {
 }
 
 /// Speech: the pairs are c(0)..c(377), and p(0), p(1), p(2) are u(91)..u(93)
-pub fn speech(channel: &Channel, identity: u16, c: &[u8]) -> Received {
+pub fn speech(channel: &Channel, identity: u64, c: &[u8]) -> Received {
     let found = nearest(&c[..channel.protected()]);
     let d = speech_bits(&found.u, c);
     verdict(channel, identity, found, d)
@@ -46,7 +46,7 @@ pub fn speech(channel: &Channel, identity: u16, c: &[u8]) -> Received {
 /// Control: d is u(0)..u(183), p is u(184)..u(223)
 /// Access: d is u(0)..u(7), C is u(8)..u(13)
 /// SCH: d is u(0)..u(24), p is u(25)..u(34)
-pub fn block(channel: &Channel, identity: u16, c: &[u8]) -> Received {
+pub fn block(channel: &Channel, identity: u64, c: &[u8]) -> Received {
     let found = nearest(c);
     let d = found.u[..channel.reads].to_vec();
     verdict(channel, identity, found, d)

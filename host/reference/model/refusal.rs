@@ -60,7 +60,7 @@ pub fn check(bits: &[u8], right_lengths: bool) -> Result<(), Refusal> {
 }
 
 /// Refusal 3 for an identity over 63.
-pub fn check_identity(identity: u16) -> Result<(), Refusal> {
+pub fn check_identity(identity: u64) -> Result<(), Refusal> {
     if identity > 63 {
         return Err(Refusal::WrongIdentity);
     }
@@ -106,6 +106,8 @@ mod tests {
     fn identity_63_passes_and_64_is_refused() {
         assert_eq!(check_identity(63), Ok(()));
         assert_eq!(check_identity(64), Err(WrongIdentity));
-        assert_eq!(check_identity(65_535), Err(WrongIdentity));
+        for identity in [65_535, 263, (1 << 32) + 7, u64::MAX] {
+            assert_eq!(check_identity(identity), Err(WrongIdentity));
+        }
     }
 }
