@@ -87,11 +87,14 @@ pub fn good_identity(random: &mut Random) -> Vec<u8> {
     number_of(random, identity)
 }
 
-/// An identity over 63: near the limit, of two digits, or up to 65535.
+/// Identities at the limits of what is taken, of two digits, of a byte and of a number.
+const LIMITS: [usize; 8] = [64, 65, 99, 100, 255, 256, 263, 65_535];
+
+/// An identity over 63: at a limit, of two digits, or up to 65535.
 pub fn high_identity(random: &mut Random) -> Vec<u8> {
     let identity = match random.below(8) {
-        0 => random.pick(&[64, 65, 99, 100]),
-        1..=3 => 64 + random.below(36),
+        0 | 1 => random.pick(&LIMITS),
+        2 | 3 => 64 + random.below(36),
         // An identity to one who counts in a single byte.
         4 => 256 * (1 + random.below(255)) + random.below(64),
         5 => 65_535 - random.below(100),
@@ -215,6 +218,21 @@ mod tests {
         let mut random = Random::new(93);
         for _ in 0..5000 {
             assert!(!b"01 \n".contains(&wrong_character(&mut random)));
+        }
+    }
+
+    #[test]
+    fn high_identities_are_over_63_and_each_limit_comes() {
+        let mut random = Random::new(135);
+        let digits = |random: &mut Random| String::from_utf8(high_identity(random)).unwrap();
+        let made: Vec<usize> = (0..1000)
+            .map(|_| digits(&mut random).parse().unwrap())
+            .collect();
+        assert!(made
+            .iter()
+            .all(|&identity| (64..=65_535).contains(&identity)));
+        for limit in LIMITS {
+            assert!(made.contains(&limit), "{}", limit);
         }
     }
 
