@@ -16,5 +16,6 @@ examples_in_table() { said | sed -e "10s/^/$(received tied) /" -e "11s/^/$(recei
 
 # The table has all that the reference works out, and nothing else.
 examples_as_worked_out() { # REFERENCE ROOM
-    "$1" examples >"$2/worked-out" && examples_in_table >"$2/in-table" && [ -s "$2/worked-out" ] && cmp "$2/in-table" "$2/worked-out"
+    "$1" examples >"$2/worked-out" && examples_in_table >"$2/in-table" || return 1
+    [ -s "$2/worked-out" ] && cmp "$2/in-table" "$2/worked-out"
 }

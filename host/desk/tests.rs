@@ -523,7 +523,7 @@ fn every_byte_over_1_is_refused() {
     }
 }
 
-/// Numbers that are this identity in their lowest bits, the last of them as C passes a negative int.
+/// Numbers that are this identity in their lowest bits; the last is as C passes a negative int.
 fn over_63(own: u64) -> Vec<u64> {
     let more = [64, 128, 192, 1 << 8, 1 << 16, 1 << 32, 1 << 63];
     let passed = more.map(|more| own + more);

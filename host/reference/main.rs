@@ -157,7 +157,8 @@ mod tests {
     fn the_usage_names_them() {
         let words = "usage: reference answer | sheet | examples | make-lines SEED COUNT | \
             make-received SEED COUNT | make-views SEED COUNT | make-lessons SEED COUNT | \
-            make-stream SEED BLOCKS | make-lend SEED COUNT | make-full SEED | make-sheet SEED COUNT";
+            make-stream SEED BLOCKS | make-lend SEED COUNT | make-full SEED | \
+            make-sheet SEED COUNT";
         assert_eq!(usage(), words);
     }
 

@@ -1,5 +1,6 @@
 //! Kit lines that lend a buffer: lessons and blocks, each line of them with a buffer of the right
-//! length or without one, and before it lines that are refused or not understood for what they lend.
+//! length or without one, and between them lines that are refused, or not understood, for what they
+//! lend.
 
 use crate::chance::random::Random;
 use crate::makers::{fields, lesson_lines, received_lines, sent_lines, view_lines};
