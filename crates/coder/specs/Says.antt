@@ -14,7 +14,7 @@ use Rattle.answers.specs.declared.Maybe.the-variants.{None, Some}
 use Rattle.answers.specs.declared.Returned.{Returned}
 use Rattle.answers.specs.declared.Told.{Told}
 use Rattle.coder.specs.Blocks.{speechBlock, controlBlock, sacchMessage, accessBurst, schBurst}
-use Rattle.coder.specs.Entries.{Given, unreached, speechSent, controlSent, sacchSent, accessSent, schSent, trellisViewed}
+use Rattle.coder.specs.Entries.{Given, speechSent, controlSent, sacchSent, accessSent, schSent, trellisViewed}
 use Rattle.coder.specs.Received.{speechDAt, speechReceived, controlReceived, sacchReceived, accessReceived, schReceived}
 
 -- 01, Numbers given for a no: an entry that reads n bits d and the identity i, and is lent m bytes that held `before`, answers a. Where
@@ -100,9 +100,12 @@ AccessReceives = (i : ℕ) (e d : List ℕ) → Receives (accessReceived i e d) 
 abbrev pub SchReceives : Type 0
 SchReceives = (e d : List ℕ) → Receives (schReceived e d) 78 25 0 e d (BlockDecodes schG 0 25 39 e)
 
--- ---- the trellis view: 1 for an odd length or one over 456, then 2; else the sixteen numbers after all pairs
+-- ---- the trellis view: 1 for an odd length or one over 456, then 2, and sixteen times 65,535; else the sixteen numbers after all pairs
+abbrev pub nothingSeen : List ℕ
+nothingSeen = tab 16 (λ s. 65535)
+
 pub record Views (r : List ℕ) : Type 0 where
-  pub one : ((length r % 2 ≡ 0) × (length r ≤ 456) → ⊥) → Refuses ofTold (trellisViewed r) 1 unreached
-  pub two : length r % 2 ≡ 0 → length r ≤ 456 → (Bits r → ⊥) → Refuses ofTold (trellisViewed r) 2 unreached
+  pub one : ((length r % 2 ≡ 0) × (length r ≤ 456) → ⊥) → Refuses ofTold (trellisViewed r) 1 nothingSeen
+  pub two : length r % 2 ≡ 0 → length r ≤ 456 → (Bits r → ⊥) → Refuses ofTold (trellisViewed r) 2 nothingSeen
   pub done : length r % 2 ≡ 0 → length r ≤ 456 → Bits r → ofTold (trellisViewed r .result) ≡ returned None None
   pub fewest : length r % 2 ≡ 0 → length r ≤ 456 → Bits r → (s : ℕ) → s < 16 → Fewest r (length r / 2) s (getD (trellisViewed r .left) s 0)

@@ -14,8 +14,8 @@ use Rattle.burst.specs.Held.{heldFlagAt, heldBlock}
 use Rattle.burst.specs.Ring.{kept}
 use Rattle.coder.specs.Says.{BlockDecodes, SpeechDecodes}
 use Rattle.stream.specs.Answers.{values, ofTaken}
-use Rattle.stream.specs.Receiving.{takenNext, takeAnswer}
-use Rattle.stream.specs.Sending.{isBlock, sentBursts, sentNext, sendAnswer, endBursts, endNext, endAnswer}
+use Rattle.stream.specs.Receiving.{freshReceiver, takenNext, takeAnswer}
+use Rattle.stream.specs.Sending.{freshSender, isBlock, sentBursts, sentNext, sendAnswer, endBursts, endNext, endAnswer}
 use Rattle.stream.specs.declared.Kind.the-variants.{Speech, Facch, Neither}
 use Rattle.stream.specs.declared.Values.{Values}
 use Rattle.stream.specs.declared.receiver.Received.{Received}
@@ -27,6 +27,12 @@ use Rattle.stream.specs.declared.sender.Sent.{Sent}
 abbrev pub SentReturns : Answer Sent → Maybe → List ℕ → Sender → Type 0
 SentReturns a number left next = (ofTold (a .result .told) ≡ returned number None) × (a .left ≡ left) × (a .result .next ≡ next)
 
+-- nothing is sent, and the stream is not ended; nothing is taken
+pub record FreshSays : Type 0 where
+  pub sent : freshSender .sent .0 ≡ 0
+  pub unended : freshSender .ended ≡ false
+  pub next : freshReceiver .next .0 ≡ 0
+
 -- no refusal applies to a send: 260 or 184 bits, 464 bytes, not ended, and room
 pub record Sendable (s : Sender) (d e : List ℕ) : Type 0 where
   pub reads : isBlock (length d) ≡ true
@@ -35,13 +41,14 @@ pub record Sendable (s : Sender) (d e : List ℕ) : Type 0 where
   pub unended : s .ended ≡ false
   pub room : s .sent .0 < 16383
 
--- where several apply: 1, 2, 7, 5. Done, with no number, exactly when none applies
+-- where several apply: 1, 2, 7, 5. Done, with no number, exactly when none applies; the next stream has one block more
 pub record SendSays (s : Sender) (d e : List ℕ) : Type 0 where
   pub one : ((isBlock (length d) ≡ true) × (length e ≡ 464) → ⊥) → SentReturns (sendAnswer s d e) (Some 1) e s
   pub two : isBlock (length d) ≡ true → length e ≡ 464 → (Bits d → ⊥) → SentReturns (sendAnswer s d e) (Some 2) e s
   pub seven : isBlock (length d) ≡ true → length e ≡ 464 → Bits d → s .ended ≡ true → SentReturns (sendAnswer s d e) (Some 7) e s
   pub five : isBlock (length d) ≡ true → length e ≡ 464 → Bits d → s .ended ≡ false → 16383 ≤ s .sent .0 → SentReturns (sendAnswer s d e) (Some 5) e s
   pub done : Sendable s d e → SentReturns (sendAnswer s d e) None (sentBursts s d) (sentNext s d)
+  pub counts : (sentNext s d .sent .0 ≡ s .sent .0 + 1) × (sentNext s d .ended ≡ s .ended)
   pub only : ofTold (sendAnswer s d e .result .told) ≡ returned None None → Sendable s d e
 
 -- no refusal applies to an end. 01: it is allowed at 16,383 blocks, so that there is no word of them
@@ -50,12 +57,13 @@ pub record Endable (s : Sender) (e : List ℕ) : Type 0 where
   pub unended : s .ended ≡ false
   pub some : 0 < s .sent .0
 
--- where several apply: 1, 7, 6
+-- where several apply: 1, 7, 6. The next stream is ended
 pub record EndSays (s : Sender) (e : List ℕ) : Type 0 where
   pub one : (length e ≡ 464 → ⊥) → SentReturns (endAnswer s e) (Some 1) e s
   pub seven : length e ≡ 464 → s .ended ≡ true → SentReturns (endAnswer s e) (Some 7) e s
   pub six : length e ≡ 464 → s .ended ≡ false → s .sent .0 ≡ 0 → SentReturns (endAnswer s e) (Some 6) e s
   pub done : Endable s e → SentReturns (endAnswer s e) None (endBursts s) (endNext s)
+  pub counts : (endNext s .sent .0 ≡ s .sent .0) × (endNext s .ended ≡ true)
   pub only : ofTold (endAnswer s e .result .told) ≡ returned None None → Endable s e
 
 -- ---- a block: by how many of its eight flags are 1, as speech or as FACCH, of its coded bits c. Four give 9 with n; a bad parity 8 with n and the
@@ -92,4 +100,5 @@ pub record TakeSays (s : Receiver) (b : ℕ) (e d : List ℕ) : Type 0 where
   pub waiting : Takeable s b e d → ((n : ℕ) → b ≡ 4 * n + 7 → ⊥) → TakeReturns (takeAnswer s b e d) (values None Neither None None) d (takenNext s e)
   pub block : Takeable s b e d → (n : ℕ) → b ≡ 4 * n + 7
       → BlockSays (λ v left. TakeReturns (takeAnswer s b e d) v left (takenNext s e)) (total 8 (heldFlagAt (kept (s .held) b e) n)) n (heldBlock (kept (s .held) b e) n) d
+  pub counts : takenNext s e .next .0 ≡ s .next .0 + 1
   pub only : takeAnswer s b e d .result .next .next .0 ≡ s .next .0 + 1 → Takeable s b e d

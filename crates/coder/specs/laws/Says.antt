@@ -213,7 +213,7 @@ sch-receives e d = receives-as 78 25 0 e d (blockHeard schG 0 25 e) e 39 schG (b
 
 -- ---- the trellis view
 pub views : (r : List ℕ) → Views r
-unfolding trellisViewed tells sentOr judged
+unfolding trellisViewed tells sentOr judged unreached
 views r =
     let shown : Bool → Bool → Answer Told = λ (l b : Bool). tells (judged l b true) (row r (length r / 2)) unreached in
     let long : length r % 2 ≡ 0 → length r ≤ 456 → viewLength r ≡ true = λ (even : length r % 2 ≡ 0) (short : length r ≤ 456). rw (eq-eqb (length r % 2) 0 even, le-leb (length r) 456 short) refl in

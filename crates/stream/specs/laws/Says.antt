@@ -30,9 +30,9 @@ use Rattle.coder.specs.Says.{blockWord, speechD, speechWord}
 use Rattle.coder.specs.laws.Blocks.{control-long}
 use Rattle.coder.specs.laws.Says.{told-done, block-heard, speech-heard, decodes}
 use Rattle.stream.specs.Answers.{values, ofTaken}
-use Rattle.stream.specs.Receiving.{takeJudged, takeTold, vote, goodOrBad, speechOf, facchOf, byKind, blockAnswer, atEnding, burstAnswer, takenNext, afterTaking, takeAnswer}
-use Rattle.stream.specs.Says.{SentReturns, Sendable, SendSays, Endable, EndSays, BlockSays, TakeReturns, Takeable, refuses, TakeSays}
-use Rattle.stream.specs.Sending.{isBlock, sendJudged, sendTold, sentBursts, sentNext, sendAnswer, endJudged, endTold, endBursts, endNext, endAnswer, afterwards}
+use Rattle.stream.specs.Receiving.{freshReceiver, takeJudged, takeTold, vote, goodOrBad, speechOf, facchOf, byKind, blockAnswer, atEnding, burstAnswer, takenNext, afterTaking, takeAnswer}
+use Rattle.stream.specs.Says.{SentReturns, FreshSays, Sendable, SendSays, Endable, EndSays, BlockSays, TakeReturns, Takeable, refuses, TakeSays}
+use Rattle.stream.specs.Sending.{freshSender, isBlock, sendJudged, sendTold, sentBursts, sentNext, sendAnswer, endJudged, endTold, endBursts, endNext, endAnswer, afterwards}
 use Rattle.stream.specs.laws.Receiving.{take-able, takes-on}
 use Rattle.stream.specs.laws.Sending.{send-able, sends-on, end-able, ends-on}
 use Rattle.stream.specs.declared.Kind.{Kind}
@@ -55,6 +55,10 @@ returns-so : (a : Answer Sent) (t : Told) (left : List ℕ) (next : Sender) → 
     → (ofTold (a .result .told) ≡ ofTold t) × (a .left ≡ left) × (a .result .next ≡ next)
 returns-so a t left next e = (ap (λ (x : Answer Sent). ofTold (x .result .told)) e, ap (λ (x : Answer Sent). x .left) e, ap (λ (x : Answer Sent). x .result .next) e)
 
+pub fresh-says : FreshSays
+unfolding freshSender freshReceiver
+fresh-says = record { sent = refl; unended = refl; next = refl }
+
 module _ (s : Sender) (d e : List ℕ) where
   send-refused : (x : Refusal) → sendTold s d e ≡ Refused x → SentReturns (sendAnswer s d e) (Some (numberOf x)) e s
   unfolding sendAnswer afterwards
@@ -65,7 +69,7 @@ module _ (s : Sender) (d e : List ℕ) where
   send-told = told-so (sendTold s d e) (sentBursts s d) e (sentNext s d) s
 
   pub send-says : SendSays s d e
-  unfolding sendTold sendJudged
+  unfolding sendTold sendJudged sentNext
   send-says =
       let lengths : Bool = both (isBlock (length d)) (eqb (length e) 464) in
       record {
@@ -74,6 +78,7 @@ module _ (s : Sender) (d e : List ℕ) where
         seven = λ reads writes bits h. send-refused Ended (rw (reads, eq-eqb (length e) 464 writes, bits-all d bits, h) refl);
         five = λ reads writes bits unended h. send-refused Full (rw (reads, eq-eqb (length e) 464 writes, bits-all d bits, unended, le-leb 16383 (s .sent .0) h) refl);
         done = λ a. returns-so (sendAnswer s d e) Done (sentBursts s d) (sentNext s d) (sends-on s d e a);
+        counts = (refl, refl);
         only = λ f. send-able s d e (sendTold s d e) refl (sym send-told ∙ told-done (sendAnswer s d e .result .told) f);
       }
 
@@ -87,12 +92,13 @@ module _ (s : Sender) (e : List ℕ) where
   end-told = told-so (endTold s e) (endBursts s) e (endNext s) s
 
   pub end-says : EndSays s e
-  unfolding endTold endJudged
+  unfolding endTold endJudged endNext
   end-says = record {
     one = λ h. end-refused Length (rw (ne-eqb (length e) 464 h) refl);
     seven = λ writes h. end-refused Ended (rw (eq-eqb (length e) 464 writes, h) refl);
     six = λ writes unended h. end-refused NothingSent (rw (eq-eqb (length e) 464 writes, unended, eq-eqb (s .sent .0) 0 h) refl);
     done = λ a. returns-so (endAnswer s e) Done (endBursts s) (endNext s) (ends-on s e a);
+    counts = (refl, refl);
     only = λ f. end-able s e (endTold s e) refl (sym end-told ∙ told-done (endAnswer s e .result .told) f);
   }
 
@@ -172,7 +178,7 @@ module _ (s : Receiver) (b : ℕ) (e d : List ℕ) where
   next-only f = taken-only (takeTold s b e d) f
 
   pub take-says : TakeSays s b e d
-  unfolding takeTold takeJudged
+  unfolding takeTold takeJudged takenNext
   take-says =
       let lengths : Bool = both (eqb (length e) 116) (eqb (length d) 260) in
       record {
@@ -182,5 +188,6 @@ module _ (s : Receiver) (b : ℕ) (e d : List ℕ) where
         four = λ reads writes bits room h. take-refused OutOfTurn (rw (eq-eqb (length e) 116 reads, eq-eqb (length d) 260 writes, bits-all e bits, lt-leb 65536 (s .next .0) room, ne-eqb b (s .next .0) h) refl);
         waiting = λ a other. brings a taken.Waiting d (waits other);
         block = λ a n is. block-says (heldFlags held n) n (heldBlock held n) d (λ v left. TakeReturns (takeAnswer s b e d) v left (takenNext s e)) (λ t left f. brings a t left (brought n is ∙ f)) (total 8 (heldFlagAt held n)) (held-ones held n);
+        counts = refl;
         only = λ f. take-able s b e d (takeTold s b e d) refl (next-only f);
       }
