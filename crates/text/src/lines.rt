@@ -4,7 +4,10 @@ use crate::read::find;
 use libc::STDIN_FILENO;
 use libc::STDOUT_FILENO;
 ghost use Prim.Native.Nat.{_≤_, _<_};
+ghost use mathlib.Core.List.{[], _∷_};
+ghost use mathlib.Core.Path.{_≡_};
 ghost use lib.ListN.{length};
+ghost use Rattle.text.specs.Text.{putAt};
 ghost use Rattle.text.specs.Within.{Within};
 
 // The bytes of a chunk that are not yet taken: from at up to end.
@@ -97,9 +100,11 @@ fn least(a: usize, b: usize) -> usize
     if a < b { a } else { b }
 }
 
-// Writes the first n bytes of `out` and a newline, by one write, so that they are seen at once.
+// Writes the first n bytes of `out` and a newline, by one write, so that they are seen at once; what is written stands in no contract of io,
+// so this one says only what is left in `out`.
 pub fn write_line(out: &mut [u8], n: usize)
     requires { ⌜ n < length (now out) ⌝ }
+    ensures { λ _. ⌜ now (out .exit) ≡ putAt (now (out .entry)) n (10 ∷ []) ⌝ }
 {
     let end = put_byte(out, n, b'\n');
     io::write_all(STDOUT_FILENO, &out[0..end]);

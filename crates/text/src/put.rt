@@ -1,11 +1,13 @@
 // Small writers: each puts something into `out` from place `n` on, and gives the place after it.
 ghost use Prim.Native.Nat.{_+_, _≤_, _<_};
+ghost use mathlib.Core.List.{[], _∷_, map};
 ghost use mathlib.Core.Path.{_≡_};
 ghost use lib.ListN.{length};
+ghost use Rattle.text.specs.Text.{putAt, bitCharacter};
 
 pub fn put_byte(out: &mut [u8], n: usize, b: u8) -> usize
     requires { ⌜ n < length (now out) ⌝ }
-    ensures { λ r. ⌜ r ≡ n + 1 ⌝ }
+    ensures { λ r. ⌜ (r ≡ n + 1) × (now (out .exit) ≡ putAt (now (out .entry)) n (b ∷ [])) ⌝ }
 {
     out[n] = b;
     n + 1
@@ -13,7 +15,7 @@ pub fn put_byte(out: &mut [u8], n: usize, b: u8) -> usize
 
 pub fn put_word(out: &mut [u8], n: usize, word: &[u8]) -> usize
     requires { ⌜ n + length (now word) ≤ length (now out) ⌝ }
-    ensures { λ r. ⌜ r ≡ n + length (now (word .entry)) ⌝ }
+    ensures { λ r. ⌜ (r ≡ n + length (now (word .entry))) × (now (out .exit) ≡ putAt (now (out .entry)) n (now (word .entry))) ⌝ }
 {
     for i in 0..word.len() {
         out[n + i] = word[i];
@@ -24,7 +26,7 @@ pub fn put_word(out: &mut [u8], n: usize, word: &[u8]) -> usize
 // Each bit is one character, '0' or '1'.
 pub fn put_bits(out: &mut [u8], n: usize, bits: &[u8]) -> usize
     requires { ⌜ n + length (now bits) ≤ length (now out) ⌝ }
-    ensures { λ r. ⌜ r ≡ n + length (now (bits .entry)) ⌝ }
+    ensures { λ r. ⌜ (r ≡ n + length (now (bits .entry))) × (now (out .exit) ≡ putAt (now (out .entry)) n (map bitCharacter (now (bits .entry)))) ⌝ }
 {
     for i in 0..bits.len() {
         out[n + i] = character(bits[i]);
@@ -32,7 +34,9 @@ pub fn put_bits(out: &mut [u8], n: usize, bits: &[u8]) -> usize
     n + bits.len()
 }
 
-fn character(bit: u8) -> u8 {
+fn character(bit: u8) -> u8
+    ensures { λ r. ⌜ r ≡ bitCharacter bit ⌝ }
+{
     if bit == 0 { b'0' } else { b'1' }
 }
 

@@ -1,7 +1,9 @@
 // Small readers: a byte is found, and characters are read as bits.
 ghost use Prim.Native.Nat.{_≤_};
+ghost use mathlib.Core.List.{map};
 ghost use mathlib.Core.Path.{_≡_};
 ghost use lib.ListN.{length};
+ghost use Rattle.text.specs.Text.{digitOf, sameBytes, putAt};
 
 // Where the byte next stands from `at` on, or the end.
 pub fn find(bytes: &[u8], at: usize, byte: u8) -> usize
@@ -21,7 +23,7 @@ pub fn find(bytes: &[u8], at: usize, byte: u8) -> usize
 // The bits of a text, a byte for each character, and how many there are.
 pub fn read_bits(text: &[u8], d: &mut [u8]) -> usize
     requires { ⌜ length (now text) ≤ length (now d) ⌝ }
-    ensures { λ r. ⌜ r ≡ length (now (text .entry)) ⌝ }
+    ensures { λ r. ⌜ (r ≡ length (now (text .entry))) × (now (d .exit) ≡ putAt (now (d .entry)) 0 (map digitOf (now (text .entry)))) ⌝ }
 {
     for k in 0..text.len() {
         d[k] = digit(text[k]);
@@ -30,7 +32,9 @@ pub fn read_bits(text: &[u8], d: &mut [u8]) -> usize
 }
 
 // '0' to '9' are the bytes 0 to 9; any other character is 255, so that it is refused as a bit.
-pub fn digit(character: u8) -> u8 {
+pub fn digit(character: u8) -> u8
+    ensures { λ r. ⌜ r ≡ digitOf character ⌝ }
+{
     if character < b'0' {
         return 255;
     }
@@ -41,7 +45,9 @@ pub fn digit(character: u8) -> u8 {
 }
 
 // Are the two the same bytes?
-pub fn same(a: &[u8], b: &[u8]) -> bool {
+pub fn same(a: &[u8], b: &[u8]) -> bool
+    ensures { λ r. ⌜ r ≡ sameBytes (now (a .entry)) (now (b .entry)) ⌝ }
+{
     if a.len() != b.len() {
         return false;
     }

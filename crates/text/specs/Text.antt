@@ -1,0 +1,26 @@
+-- What the small readers and writers of text do with bytes.
+use mathlib.Core.Bool.{Bool, true, false}
+use mathlib.Core.List.{List, [], _∷_, _++_}
+use Prim.Native.Nat.{ℕ, _+_, _-_}
+use lib.Dec.{leb, eqb}
+use lib.ListN.{length, take, drop}
+use Rattle.bits.specs.Bits.{pick, both}
+
+-- '0' to '9' are the bytes 0 to 9; any other character is 255
+unfoldable pub digitOf : ℕ → ℕ
+digitOf c = pick (both (leb 48 c) (leb c 57)) (c - 48) 255
+
+-- are the two the same bytes?
+unfoldable pub sameBytes : List ℕ → List ℕ → Bool
+sameBytes [] [] = true
+sameBytes [] (b ∷ w) = false
+sameBytes (a ∷ v) [] = false
+sameBytes (a ∷ v) (b ∷ w) = both (eqb a b) (sameBytes v w)
+
+-- the word stands in `out` from place n on, and the rest of `out` is left
+unfoldable pub putAt : List ℕ → ℕ → List ℕ → List ℕ
+putAt out n word = take n out ++ (word ++ drop (n + length word) out)
+
+-- a bit's character, '0' or '1'
+unfoldable pub bitCharacter : ℕ → ℕ
+bitCharacter b = pick (eqb b 0) 48 49
