@@ -2,9 +2,17 @@
 use mathlib.Core.Bool.{Bool, true, false}
 use mathlib.Core.List.{List, [], _∷_, _++_}
 use Prim.Native.Nat.{ℕ, _+_, _-_}
+use Prim.Native.Char.{code}
+use Prim.Native.String.{String}
+use Prim.Native.String.{[] as end, _∷_ as _then_}
 use lib.Dec.{leb, eqb}
 use lib.ListN.{length, take, drop}
 use Rattle.bits.specs.Bits.{pick, both}
+
+-- the bytes of a text whose characters are one byte each
+abbrev pub bytesOf : String → List ℕ
+bytesOf end = []
+bytesOf (c then s) = code c ∷ bytesOf s
 
 -- '0' to '9' are the bytes 0 to 9; any other character is 255
 unfoldable pub digitOf : ℕ → ℕ
@@ -24,3 +32,10 @@ putAt out n word = take n out ++ (word ++ drop (n + length word) out)
 -- a bit's character, '0' or '1'
 unfoldable pub bitCharacter : ℕ → ℕ
 bitCharacter b = pick (eqb b 0) 48 49
+
+abbrev pub refusedWord : List ℕ
+refusedWord = bytesOf "refused "
+
+-- the word, and the digit of a refusal's number
+unfoldable pub refusedAs : ℕ → List ℕ
+refusedAs number = refusedWord ++ ((48 + number) ∷ [])

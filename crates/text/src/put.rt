@@ -3,7 +3,7 @@ ghost use Prim.Native.Nat.{_+_, _≤_, _<_};
 ghost use mathlib.Core.List.{[], _∷_, map};
 ghost use mathlib.Core.Path.{_≡_};
 ghost use lib.ListN.{length};
-ghost use Rattle.text.specs.Text.{putAt, bitCharacter};
+ghost use Rattle.text.specs.Text.{putAt, bitCharacter, refusedAs};
 
 pub fn put_byte(out: &mut [u8], n: usize, b: u8) -> usize
     requires { ⌜ n < length (now out) ⌝ }
@@ -50,10 +50,11 @@ pub fn put_number(out: &mut [u8], n: usize, number: u64) -> usize
     put_word(out, n, &digits[..k])
 }
 
+// A refusal's number is one digit.
 pub fn put_refused(out: &mut [u8], n: usize, number: u8) -> usize
-    requires { ⌜ n + 28 ≤ length (now out) ⌝ }
-    ensures { λ r. ⌜ r ≤ n + 28 ⌝ }
+    requires { ⌜ (n + 9 ≤ length (now out)) × (number ≤ 9) ⌝ }
+    ensures { λ r. ⌜ (r ≡ n + 9) × (now (out .exit) ≡ putAt (now (out .entry)) n (refusedAs number)) ⌝ }
 {
     let at = put_word(out, n, b"refused ");
-    put_number(out, at, number as u64)
+    put_byte(out, at, b'0' + number)
 }

@@ -1,12 +1,12 @@
 -- A word that is put into a buffer: byte by byte, and after another word.
-use mathlib.Core.List.{List, [], _∷_, _++_, append-assoc}
+use mathlib.Core.List.{List, [], _∷_, _++_, append-assoc, append-nil}
 use mathlib.Core.Path.{_≡_, refl, sym, ap, ap₂, _∙_}
 use Prim.Native.Nat.{ℕ, zero, suc, _+_, _≤_, _<_}
 use native.Mathlib.Numerals.{add-one}
 use native.Mathlib.Omega.{arith}
-use lib.ListN.{length, getD, set, take, drop, length-append, length-take, length-drop, length-set}
+use lib.ListN.{length, getD, set, take, drop, length-append, length-take, length-drop, length-set, drop-of-length-le}
 use lib.Seq.{paste, paste-zero, paste-suc, take-all, take-at, drop-at, drop-drop, length-take-le, set-split}
-use Rattle.text.specs.Text.{putAt}
+use Rattle.text.specs.Text.{putAt, refusedAs}
 
 -- ---- a loop that puts the bytes of the word in turn: after i turns the first i of them stand in `out`, which was `before`
 abbrev pub Putting : List ℕ → ℕ → List ℕ → ℕ → List ℕ → Type 0
@@ -62,3 +62,13 @@ unfolding putAt
 length-put out word n l =
     length-append (take n out) (word ++ drop (n + length word) out)
     ∙ rw (length-append word (drop (n + length word) out), length-drop (n + length word) out, length-take-le n out (omega arith)) (omega arith)
+
+-- a word that fills the buffer is all of it
+pub put-whole : (out word : List ℕ) → length word ≡ length out → putAt out 0 word ≡ word
+unfolding putAt
+put-whole out word e =
+    ap (λ (r : List ℕ). word ++ r) (drop-of-length-le out {i = 0 + length word} (omega arith)) ∙ append-nil word
+
+pub length-refused : (number : ℕ) → length (refusedAs number) ≡ 9
+unfolding refusedAs
+length-refused number = refl
