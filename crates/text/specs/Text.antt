@@ -1,13 +1,15 @@
 -- What the small readers and writers of text do with bytes.
 use mathlib.Core.Bool.{Bool, true, false}
 use mathlib.Core.List.{List, [], _∷_, _++_}
-use Prim.Native.Nat.{ℕ, _+_, _-_}
+use mathlib.Core.Path.{_≡_}
+use Prim.Native.Nat.{ℕ, _+_, _-_, _≤_}
 use Prim.Native.Char.{code}
 use Prim.Native.String.{String}
 use Prim.Native.String.{[] as end, _∷_ as _then_}
 use lib.Dec.{leb, eqb}
 use lib.ListN.{length, take, drop}
 use Rattle.bits.specs.Bits.{pick, both}
+use Rattle.io.specs.Digits.{digits as digitsOf, Fewest}
 
 -- the bytes of a text whose characters are one byte each
 abbrev pub bytesOf : String → List ℕ
@@ -32,6 +34,12 @@ putAt out n word = take n out ++ (word ++ drop (n + length word) out)
 -- a bit's character, '0' or '1'
 unfoldable pub bitCharacter : ℕ → ℕ
 bitCharacter b = pick (eqb b 0) 48 49
+
+-- a number's decimal digits, no more than it takes, stand from place n up to place r, and the rest of the buffer is left
+pub record PutNumber (number n r : ℕ) (before after : List ℕ) : Type 0 where
+  pub short : r ≤ n + 20
+  pub fewest : Fewest 10 1 number (r - n)
+  pub put : after ≡ putAt before n (digitsOf 10 (r - n) number)
 
 abbrev pub refusedWord : List ℕ
 refusedWord = bytesOf "refused "

@@ -3,7 +3,7 @@ ghost use Prim.Native.Nat.{_+_, _≤_, _<_};
 ghost use mathlib.Core.List.{[], _∷_, map};
 ghost use mathlib.Core.Path.{_≡_};
 ghost use lib.ListN.{length};
-ghost use Rattle.text.specs.Text.{putAt, bitCharacter, refusedAs};
+ghost use Rattle.text.specs.Text.{putAt, bitCharacter, PutNumber, refusedAs};
 
 pub fn put_byte(out: &mut [u8], n: usize, b: u8) -> usize
     requires { ⌜ n < length (now out) ⌝ }
@@ -43,7 +43,7 @@ fn character(bit: u8) -> u8
 // A number has at most twenty digits.
 pub fn put_number(out: &mut [u8], n: usize, number: u64) -> usize
     requires { ⌜ n + 20 ≤ length (now out) ⌝ }
-    ensures { λ r. ⌜ r ≤ n + 20 ⌝ }
+    ensures { λ r. ⌜ PutNumber number n r (now (out .entry)) (now (out .exit)) ⌝ }
 {
     let mut digits = [0u8; 20];
     let k = io::decimal(number, &mut digits);
