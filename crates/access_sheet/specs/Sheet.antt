@@ -6,7 +6,7 @@ use lib.Dec.{leb, eqb}
 use lib.ListN.{length, getD, take, drop}
 use Rattle.bits.specs.Bits.{pick, both, zeros}
 use Rattle.text.specs.Text.{bytesOf, digitOf, bitCharacter, refusedAs}
-use Rattle.answers.specs.Answers.{Answer, numberOf}
+use Rattle.answers.specs.Answers.{numberOf}
 use Rattle.answers.specs.declared.Told.{Told}
 use Rattle.answers.specs.declared.Told.the-variants.{Done, Refused}
 use Rattle.coder.specs.Entries.{accessSent}

@@ -1,21 +1,20 @@
 -- What a head says, and how an answer of the library is said.
 use mathlib.Core.Bool.{Bool, true, false}
 use mathlib.Core.List.{List, _++_, map}
-use mathlib.Core.Path.{_≡_, refl, sym, ap, ap₂, _∙_}
-use Prim.Native.Nat.{ℕ, _+_, _≤_}
+use mathlib.Core.Path.{_≡_, refl, sym, ap₂, _∙_}
+use Prim.Native.Nat.{ℕ, _≤_}
 use native.Mathlib.Omega.{arith}
 use lib.ListN.{length, getD, take, drop}
 use borrow.Author.Tests.{eq-eqb, ne-eqb}
 use Rattle.bits.specs.Bits.{pick, zeros}
 use Rattle.text.specs.Text.{digitOf, bitCharacter, refusedAs}
-use Rattle.answers.specs.Answers.{Answer, Meets, numberOf}
+use Rattle.answers.specs.Answers.{Meets, numberOf}
 use Rattle.answers.specs.declared.Refusal.{Refusal}
 use Rattle.answers.specs.declared.Refusal.the-variants.{Length, NotBits, Identity as WrongIdentity, OutOfTurn, Full, NothingSent, Ended, Parity, Flags}
 use Rattle.answers.specs.declared.Told.{Told}
 use Rattle.answers.specs.declared.Told.the-variants.{Done, Refused}
 use Rattle.coder.specs.Entries.{accessSent}
 use Rattle.access_sheet.specs.Sheet.{isHead, twoDigits, headOf, headed, identityOf, saidOf, said, noRequest, sheetAnswer}
-use Rattle.access_sheet.specs.declared.sheet.Head.{Head}
 use Rattle.access_sheet.specs.declared.sheet.Head.the-variants.{Identity, Bad}
 
 -- every refusal's number is one digit

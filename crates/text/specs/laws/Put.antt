@@ -1,10 +1,10 @@
 -- A word that is put into a buffer: byte by byte, and after another word.
 use mathlib.Core.List.{List, [], _∷_, _++_, append-assoc, append-nil}
 use mathlib.Core.Path.{_≡_, refl, sym, ap, ap₂, _∙_}
-use Prim.Native.Nat.{ℕ, zero, suc, _+_, _≤_, _<_}
+use Prim.Native.Nat.{ℕ, _+_, _≤_, _<_}
 use native.Mathlib.Numerals.{add-one}
 use native.Mathlib.Omega.{arith}
-use lib.ListN.{length, getD, set, take, drop, length-append, length-take, length-drop, length-set, drop-of-length-le}
+use lib.ListN.{length, getD, set, take, drop, length-append, length-set, drop-of-length-le}
 use lib.Seq.{paste, paste-zero, paste-suc, take-all, take-at, drop-at, drop-drop, length-take-le, set-split}
 use Rattle.text.specs.Text.{putAt, refusedAs}
 
@@ -55,13 +55,6 @@ put-then out v w n m l e =
     ap₂ (λ (x y : List ℕ). x ++ (w ++ y)) front rest
     ∙ append-assoc p v (w ++ drop (n + length (v ++ w)) out)
     ∙ ap (λ (x : List ℕ). p ++ x) (sym (append-assoc v w (drop (n + length (v ++ w)) out)))
-
--- a word that has room leaves the length
-pub length-put : (out word : List ℕ) (n : ℕ) → n + length word ≤ length out → length (putAt out n word) ≡ length out
-unfolding putAt
-length-put out word n l =
-    length-append (take n out) (word ++ drop (n + length word) out)
-    ∙ rw (length-append word (drop (n + length word) out), length-drop (n + length word) out, length-take-le n out (omega arith)) (omega arith)
 
 -- a word that fills the buffer is all of it
 pub put-whole : (out word : List ℕ) → length word ≡ length out → putAt out 0 word ≡ word

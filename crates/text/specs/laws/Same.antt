@@ -1,11 +1,10 @@
 -- `sameBytes` is true of two lists exactly when they are equal.
 use mathlib.Core.Bool.{Bool, true, false}
 use mathlib.Core.List.{List, [], _∷_}
-use mathlib.Core.Path.{_≡_, refl, sym, ap, ap₂, _∙_, subst}
+use mathlib.Core.Path.{_≡_, refl, ap₂, subst}
 use Prim.Native.Nat.{ℕ}
 use lib.Dec.{eqb}
 use borrow.Author.Tests.{eq-eqb, eqb-true}
-use Rattle.bits.specs.Bits.{both}
 use Rattle.bits.specs.laws.Cases.{both-first, both-second}
 use Rattle.text.specs.Text.{sameBytes}
 

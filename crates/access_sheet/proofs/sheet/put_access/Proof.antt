@@ -1,7 +1,7 @@
 -- `put_access` is right: the characters are read as bytes, the library answers, and its answer is said.
 use mathlib.Core.List.{List, map}
-use mathlib.Core.Path.{_≡_, refl, sym, ap, _∙_, subst}
-use Prim.Native.Nat.{ℕ, _+_, _≤_}
+use mathlib.Core.Path.{sym, ap, _∙_, subst}
+use Prim.Native.Nat.{ℕ, _+_}
 use native.Mathlib.Omega.{arith}
 use borrow.Author.Needs.{needs}
 use lib.ListN.{length, replicate, length-map}
@@ -10,7 +10,6 @@ use Rattle.text.specs.Text.{digitOf, bitCharacter, refusedAs, putAt}
 use Rattle.text.specs.laws.Put.{put-whole, length-refused}
 use Rattle.answers.specs.Answers.{Meets, numberOf}
 use Rattle.coder.specs.Entries.{accessSent}
-use Rattle.access_sheet.specs.Sheet.{said}
 use Rattle.access_sheet.specs.laws.Sheet.{one-digit, said-done, said-refused}
 use Rattle.access_sheet.proofs.sheet.put_access.Statement.{statement}
 use Rattle.access_sheet.proofs.sheet.put_access.Tie as tie

@@ -1,11 +1,12 @@
 -- `read_head` is right: each test is one of the head's.
-use mathlib.Core.Path.{_≡_, sym, ap₂, _∙_}
-use Prim.Native.Nat.{ℕ, _+_, _*_, _≤_, _<_}
+use mathlib.Core.Path.{ap}
+use Prim.Native.Nat.{_≤_, _<_}
 use native.Mathlib.Omega.{arith}
 use borrow.Author.Needs.{needs}
 use borrow.Author.Tests.{le-leb, lt-leb, eq-eqb, ne-eqb}
 use Rattle.text.specs.Text.{digitOf}
 use Rattle.access_sheet.specs.Sheet.{isHead, twoDigits, headOf}
+use Rattle.access_sheet.specs.declared.sheet.Head.the-variants.{Identity}
 use Rattle.access_sheet.proofs.sheet.read_head.Statement.{statement}
 use Rattle.access_sheet.proofs.sheet.read_head.Tie as tie
 
@@ -13,7 +14,7 @@ returns : tie.Need-returns
 unfolding headOf isHead
 returns c =
     let s = c .before .before in
-    let h : 9 < digitOf (s .before .args .tens) = omega (arith, s .digit .ensures) in
+    let h : 9 < digitOf (s .before .args .tens) = omega arith in
     rw (lt-leb (digitOf (s .before .args .tens)) 9 h)
 
 returns-2 : tie.Need-returns-2
@@ -31,7 +32,7 @@ returns-3 c =
     let a = s .before .args in
     let t : digitOf (a .tens) ≤ 9 = omega arith in
     let o : digitOf (a .ones) ≤ 9 = omega arith in
-    rw (le-leb (digitOf (a .tens)) 9 t, le-leb (digitOf (a .ones)) 9 o, eq-eqb (a .gap) 32 (c .if3 .taken), ← s .digit .ensures, ← c .before .before .before .digit2 .ensures)
+    rw (le-leb (digitOf (a .tens)) 9 t, le-leb (digitOf (a .ones)) 9 o, eq-eqb (a .gap) 32 (c .if3 .taken)) (ap Identity (omega arith))
 
 returns-4 : tie.Need-returns-4
 unfolding headOf isHead

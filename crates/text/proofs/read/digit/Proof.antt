@@ -1,5 +1,4 @@
 -- `digit` is right: below '0' and above '9' there is no digit. Assumes nothing.
-use native.Mathlib.Omega.{arith}
 use borrow.Author.Tests.{le-leb, lt-leb}
 use Rattle.text.specs.Text.{digitOf}
 use Rattle.text.proofs.read.digit.Statement.{statement}
