@@ -29,7 +29,7 @@ pub fn answer(line: &[u8], out: &mut [u8]) -> usize
         Head::Bad => put_word(out, 0, b"?? refused 1"),
         Head::Identity(identity) => {
             let n = put_word(out, 0, &line[0..3]);
-            put_access(out, n, identity, &line[3..11])
+            put_access(out, n, identity as u64, &line[3..11])
         }
     }
 }
@@ -54,7 +54,7 @@ fn read_head(tens: u8, ones: u8, gap: u8) -> Head
 }
 
 // Puts the bits of the access burst that carries the eight characters, or the refusal.
-fn put_access(out: &mut [u8], n: usize, identity: u8, characters: &[u8]) -> usize
+fn put_access(out: &mut [u8], n: usize, identity: u64, characters: &[u8]) -> usize
     requires { ⌜ (n + 36 ≤ length (now out)) × (length (now characters) ≡ 8) ⌝ }
     ensures { λ r. ⌜ (r ≤ n + 36) × (r ≡ n + length (said identity (now (characters .entry)))) × (now (out .exit) ≡ putAt (now (out .entry)) n (said identity (now (characters .entry)))) ⌝ }
 {
