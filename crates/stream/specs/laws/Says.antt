@@ -1,14 +1,14 @@
 -- What send, end and take answer is what Says has, for every value of a stream.
 use mathlib.Core.Bool.{Bool, true, false}
 use mathlib.Core.List.{List, _++_}
-use mathlib.Core.Path.{_≡_, refl, sym, ap, _∙_}
+use mathlib.Core.Path.{_≡_, refl, sym, ap, ap₂, _∙_}
 use Prim.Native.Nat.{ℕ, _+_, _*_, _≤_, _<_}
 use native.Mathlib.Omega.{arith}
 use lib.Count as count
 use lib.Dec.{eqb, leb, ltb, lit≤}
 use lib.ListN.{length, take, drop}
 use borrow.Author.Tests.{eqb-true, eq-eqb, ne-eqb, le-leb, lt-leb, lt-ltb, le-ltb}
-use Rattle.bits.specs.Bits.{Bits, both, allBits, total}
+use Rattle.bits.specs.Bits.{Bits, pick, both, allBits, total}
 use Rattle.bits.specs.laws.Cases.{both-first, both-second, not-true}
 use Rattle.bits.specs.laws.Check.{all-bits, bits-all}
 use Rattle.answers.specs.Answers.{Answer, numberOf, returned, ofTold}
@@ -105,17 +105,18 @@ module _ (s : Sender) (e : List ℕ) where
 -- ---- a block, by its kind: what an answer returns is known of byKind's
 module _ (flags n : ℕ) (c d : List ℕ) (returns : Values → List ℕ → Type 0)
     (says : (t : Taken) (left : List ℕ) → byKind (vote flags) n c d ≡ record { result = t; left = left } → returns (ofTaken t) left) where
-  few : count.ones flags < 4 → vote flags ≡ kind.Speech
+  by-tests : (few many : Bool) → ltb (count.ones flags) 4 ≡ few → ltb 4 (count.ones flags) ≡ many → vote flags ≡ pick few kind.Speech (pick many kind.Facch kind.Neither)
   unfolding vote
-  few h = rw (lt-ltb (count.ones flags) 4 h) refl
+  by-tests few many ef em = ap₂ (λ (x y : Bool). pick x kind.Speech (pick y kind.Facch kind.Neither)) ef em
+
+  few : count.ones flags < 4 → vote flags ≡ kind.Speech
+  few h = by-tests true false (lt-ltb (count.ones flags) 4 h) (le-ltb 4 (count.ones flags) (omega (arith, h)))
 
   many : 4 < count.ones flags → vote flags ≡ kind.Facch
-  unfolding vote
-  many h = rw (le-ltb (count.ones flags) 4 (omega (arith, h)), lt-ltb 4 (count.ones flags) h) refl
+  many h = by-tests false true (le-ltb (count.ones flags) 4 (omega (arith, h))) (lt-ltb 4 (count.ones flags) h)
 
   as-many : count.ones flags ≡ 4 → vote flags ≡ kind.Neither
-  unfolding vote
-  as-many h = rw (le-ltb (count.ones flags) 4 (omega (arith, h)), le-ltb 4 (count.ones flags) (omega (arith, h))) refl
+  as-many h = by-tests false false (le-ltb (count.ones flags) 4 (omega (arith, h))) (le-ltb 4 (count.ones flags) (omega (arith, h)))
 
   pub block-says : (m : ℕ) → count.ones flags ≡ m → BlockSays returns m n c d
   unfolding byKind speechOf facchOf goodOrBad

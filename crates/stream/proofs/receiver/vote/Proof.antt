@@ -1,7 +1,4 @@
--- `stream::receiver::vote` is right: the two tests part 0 to 3, 5 to 8, and 4.
-use Prim.Native.Nat.{_<_}
-use native.Mathlib.Omega.{arith}
-use lib.Count.{ones}
+-- `stream::receiver::vote` is right: its two tests are the definition's.
 use borrow.Author.Tests.{lt-ltb, le-ltb}
 use Rattle.stream.specs.Receiving.{vote}
 use Rattle.stream.proofs.receiver.vote.Statement.{statement}
@@ -9,10 +6,7 @@ use Rattle.stream.proofs.receiver.vote.Tie as tie
 
 returns : tie.Need-returns
 unfolding vote
-returns c =
-    let h = c .if1 .taken in
-    let few : ones (c .before .args .flags) < 4 = omega (arith, h) in
-    simp (lt-ltb (ones (c .before .args .flags)) 4 few)
+returns c = simp (lt-ltb _ _ (c .if1 .taken))
 
 returns-2 : tie.Need-returns-2
 unfolding vote
