@@ -108,4 +108,5 @@ pub record Views (r : List ℕ) : Type 0 where
   pub one : ((length r % 2 ≡ 0) × (length r ≤ 456) → ⊥) → Refuses ofTold (trellisViewed r) 1 nothingSeen
   pub two : length r % 2 ≡ 0 → length r ≤ 456 → (Bits r → ⊥) → Refuses ofTold (trellisViewed r) 2 nothingSeen
   pub done : length r % 2 ≡ 0 → length r ≤ 456 → Bits r → ofTold (trellisViewed r .result) ≡ returned None None
+  pub only : ofTold (trellisViewed r .result) ≡ returned None None → (length r % 2 ≡ 0) × (length r ≤ 456) × Bits r
   pub fewest : length r % 2 ≡ 0 → length r ≤ 456 → Bits r → (s : ℕ) → s < 16 → Fewest r (length r / 2) s (getD (trellisViewed r .left) s 0)

@@ -38,7 +38,7 @@ module _ (half : ℕ) where
     pathCost [] = 0
     pathCost (b ∷ h) = pathCost h + cost (length h) (state h) b
 
-    -- the fewest, or `none` where no path of t bits ends in s: 01, What the decoder answers, of each state
+    -- w is the cheapest path of t bits that ends in s, and v is what it costs; of those that cost as much it is the first in the tie order
     pub record Least (t s v : ℕ) (w : List ℕ) : Type 0 where
       pub bits : Bits w
       pub long : length w ≡ t

@@ -34,7 +34,7 @@ use Rattle.coder.specs.Entries.{judged, lengths, Given, entry, viewLengt
 use Rattle.coder.specs.Received.{Hearing, allOnes, speechDAt, blockHeard, speechHeard, judgedHearing, reception, speechReceived, controlReceived, sacchReceived, accessReceived, schReceived}
 use Rattle.coder.specs.Says.{Refusing, Sends, SpeechSends, ControlSends, SacchSends, AccessSends, SchSends, Decodes, blockWord, BlockDecodes, speechD, speechWord, SpeechDecodes, Accepts, FindsBad, Receives, SpeechReceives, ControlReceives, SacchReceives, AccessReceives, SchReceives, Views}
 use Rattle.coder.specs.laws.Blocks.{control-long, access-long, sch-long}
-use Rattle.coder.specs.laws.Entries.{done-given, done-identity, sends, view-fewest}
+use Rattle.coder.specs.laws.Entries.{done-held, done-given, done-identity, sends, view-fewest}
 use Rattle.coder.specs.laws.Heard.{bits-drop, hears-good, hears-bad}
 use Rattle.coder.specs.laws.SpeechHeard.{bits-d}
 use Rattle.coder.specs.laws.Restored.{ones-good, good-ones}
@@ -224,5 +224,11 @@ views r =
           (ap (λ (l : Bool). ofTold (shown l (allBits r) .result)) e, ap (λ (l : Bool). shown l (allBits r) .left) e);
       two = λ even short h. rw (long even short, not-true (allBits r) (λ (e : allBits r ≡ true). h (all-bits r e))) (refl, refl);
       done = λ even short bits. rw (long even short, bits-all r bits) refl;
+      only = λ e.
+          let held = done-held (viewLength r) (allBits r) true (told-done (judged (viewLength r) (allBits r) true) e) in (
+            eqb-true (length r % 2) 0 (both-first (eqb (length r % 2) 0) (leb (length r) 456) (held .lengths)),
+            leb-true (length r) 456 (both-second (eqb (length r % 2) 0) (leb (length r) 456) (held .lengths)),
+            all-bits r (held .bits),
+          );
       fewest = λ even short bits s h. view-fewest r (trellisViewed r .left) (record { result = rw (long even short, bits-all r bits) refl; left = refl }) s h;
     }
