@@ -1,33 +1,34 @@
 -- What a head says, and how an answer of the library is said.
 use mathlib.Core.Bool.{Bool, true, false}
 use mathlib.Core.List.{List, _++_, map}
-use mathlib.Core.Path.{_≡_, refl, sym, ap₂, _∙_}
+use mathlib.Core.Path.{_≡_, refl, sym, ap₂, _∙_, subst}
 use Prim.Native.Nat.{ℕ, _≤_}
 use native.Mathlib.Omega.{arith}
+use lib.Dec.{leb}
 use lib.ListN.{length, getD, take, drop}
 use borrow.Author.Tests.{eq-eqb, ne-eqb}
-use Rattle.bits.specs.Bits.{pick, zeros}
+use Rattle.bits.specs.Bits.{pick, zeros, allBits}
 use Rattle.text.specs.Text.{digitOf, bitCharacter, refusedAs}
-use Rattle.answers.specs.Answers.{Meets, numberOf}
+use Rattle.answers.specs.Answers.{Meets, tells, numberOf}
 use Rattle.answers.specs.declared.Refusal.{Refusal}
-use Rattle.answers.specs.declared.Refusal.the-variants.{Length, NotBits, Identity as WrongIdentity, OutOfTurn, Full, NothingSent, Ended, Parity, Flags}
+use Rattle.answers.specs.declared.Refusal.the-variants.{Length, NotBits, Identity as WrongIdentity}
 use Rattle.answers.specs.declared.Told.{Told}
 use Rattle.answers.specs.declared.Told.the-variants.{Done, Refused}
-use Rattle.coder.specs.Entries.{accessSent}
+use Rattle.coder.specs.Entries.{judged, lengths, entry, accessSent}
 use Rattle.access_sheet.specs.Sheet.{isHead, twoDigits, headOf, headed, identityOf, saidOf, said, noRequest, sheetAnswer}
 use Rattle.access_sheet.specs.declared.sheet.Head.the-variants.{Identity, Bad}
 
--- every refusal's number is one digit
-pub one-digit : (r : Refusal) → numberOf r ≤ 9
-one-digit Length = omega arith
-one-digit NotBits = omega arith
-one-digit WrongIdentity = omega arith
-one-digit OutOfTurn = omega arith
-one-digit Full = omega arith
-one-digit NothingSent = omega arith
-one-digit Ended = omega arith
-one-digit Parity = omega arith
-one-digit Flags = omega arith
+-- ---- the number of each refusal that an access burst can have is one digit
+judged-few : (l b i : Bool) (x : Refusal) → judged l b i ≡ Refused x → numberOf x ≤ 9
+unfolding judged
+judged-few false b i x e = let f : Length ≡ x = cc in subst (λ (r : Refusal). numberOf r ≤ 9) f (omega arith)
+judged-few true false i x e = let f : NotBits ≡ x = cc in subst (λ (r : Refusal). numberOf r ≤ 9) f (omega arith)
+judged-few true true false x e = let f : WrongIdentity ≡ x = cc in subst (λ (r : Refusal). numberOf r ≤ 9) f (omega arith)
+judged-few true true true x e = let z : _≡_ {A = ℕ} 0 1 = cc in let w : ⊥ = omega arith in absurd w
+
+pub one-digit : (identity : ℕ) (d e after : List ℕ) (r : Told) (x : Refusal) → Meets (accessSent identity d e) r after → r ≡ Refused x → numberOf x ≤ 9
+unfolding accessSent entry tells
+one-digit identity d e after r x m f = judged-few (lengths d 8 e 36) (allBits d) (leb identity 63) x (sym (m .result) ∙ f)
 
 -- ---- a head that is read is one, with the identity that its digits write; a bad one is none
 module _ (tens ones gap : ℕ) where

@@ -27,7 +27,9 @@ met c =
     subst (λ (d : List ℕ). Meets (accessSent (a .identity) d (zeros 36)) (c .send-access .result) (c .send-access .last .1 .1 .0)) (read .ensures .1 ∙ whole) (c .send-access .ensures)
 
 put-refused-requires : tie.Need-put-refused-requires
-put-refused-requires c κs = (search needs, omega (arith, c .number .ensures, one-digit (c .before .before .before .refusal .given .0 .0)))
+put-refused-requires c κs =
+    let why = c .before .before .before .refusal .given in
+    (search needs, omega (arith, c .number .ensures, one-digit _ _ _ _ _ (why .0 .0) (c .before .before .before .before .before .before .send-access .ensures) (why .1)))
 
 returns : tie.Need-returns
 returns c =
