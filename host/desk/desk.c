@@ -7,9 +7,15 @@
  *   control? BITS      receives 456 bits:                                good, COUNT in disagreement: the 184 bits
  *
  * COUNT is in how many of the received bits the nearest block disagrees. A refusal is 'refused', its number and the reason.
+ *
+ * One carriage return before a newline is passed over, and so is a byte order mark before the first line: a text file from
+ * Windows is read like any other. Where an answer cannot be written or the input cannot be read, the program says why and ends
+ * with status 1.
  */
+#include <errno.h>
 #include <stdbool.h>
 #include <stdio.h>
+#include <stdlib.h>
 #include <string.h>
 
 #include "desk.h"
@@ -20,6 +26,7 @@ enum {
     OVER_1 = 2   /* stands for a character that is no bit, and the library refuses it */
 };
 
+static const unsigned char mark[] = {0xEF, 0xBB, 0xBF}; /* the byte order mark */
 static const char usage[] = "? write one of: access ID BITS, access? ID BITS, control BITS, control? BITS";
 
 /* What stands between two spaces: its characters, and the decimal number that they make. */
@@ -102,19 +109,55 @@ static void clear(struct line *line)
     }
 }
 
-/* Reads the next line; false at the end. A last line without its newline counts if it is not empty. */
+/* Whether nothing was added to the line. */
+static bool is_empty(const struct line *line)
+{
+    return line->fields == 1 && line->field[0].length == 0;
+}
+
+/* Passes over the next byte of the input if it is this one; says whether it was. */
+static bool pass_over(int wanted)
+{
+    int byte = getchar();
+
+    if (byte == wanted) {
+        return true;
+    }
+    ungetc(byte, stdin); /* at the end of the input it puts nothing back */
+    return false;
+}
+
+/* Passes over a byte order mark; of one that is not whole, what was read belongs to the line. */
+static void pass_over_mark(struct line *line)
+{
+    size_t found = 0;
+
+    while (found < sizeof mark && pass_over(mark[found])) {
+        found++;
+    }
+    if (found == sizeof mark) {
+        return;
+    }
+    for (size_t k = 0; k < found; k++) {
+        add_byte(line, mark[k]);
+    }
+}
+
+/* Whether a byte that was read ends its line: a newline, or a carriage return right before one. */
+static bool ends_line(int byte)
+{
+    return byte == '\n' || (byte == '\r' && pass_over('\n'));
+}
+
+/* Reads what is left of the next line; false at the end. A last line without its newline counts if it is not empty. */
 static bool read_line(struct line *line)
 {
     int byte = getchar();
 
-    if (byte == EOF) {
-        return false;
-    }
-    clear(line);
-    for (; byte != EOF && byte != '\n'; byte = getchar()) {
+    for (; byte != EOF && !ends_line(byte); byte = getchar()) {
         add_byte(line, byte);
     }
-    return true;
+    return byte != EOF || !is_empty(line);
 }
 
 /* The verb that the line begins with, if it has as many fields as the verb asks for; else NULL. */
@@ -143,35 +186,40 @@ static void read_bits(const struct field *field, uint8_t bits[ROOM])
     }
 }
 
+/* Ends the program where a call that writes has failed, and says why; a pipe that nobody reads any more needs no words. */
+static void must_be_written(int returned)
+{
+    if (returned >= 0) {
+        return;
+    }
+    if (errno != EPIPE) {
+        fprintf(stderr, "desk: an answer could not be written: %s\n", strerror(errno));
+    }
+    exit(EXIT_FAILURE);
+}
+
 /* Prints bits and ends the line. */
 static void print_bits(const uint8_t *bits, size_t length)
 {
     for (size_t k = 0; k < length; k++) {
-        putchar('0' + bits[k]);
+        must_be_written(putchar('0' + bits[k]));
     }
-    putchar('\n');
+    must_be_written(putchar('\n'));
 }
 
-/* Prints a refusal and its reason. */
+/* Prints a refusal, its reason and what else is to be said of it. */
 static void print_refusal(const struct verb *verb, uint32_t answer)
 {
-    printf("refused %u: ", (unsigned)desk_number(answer));
-    switch (desk_number(answer)) {
-    case DESK_WRONG_LENGTH:
-        printf("%s reads %u bits\n", verb->word, (unsigned)verb->reads);
-        break;
-    case DESK_NOT_A_BIT:
-        puts("a character is neither 0 nor 1");
-        break;
-    case DESK_WRONG_IDENTITY:
-        printf("the identity is over %d\n", DESK_HIGHEST_IDENTITY);
-        break;
-    case DESK_BAD_PARITY:
-        printf("the parity is bad, %u in disagreement\n", (unsigned)desk_count(answer));
-        break;
-    default:
-        puts("no reason is known");
+    uint32_t number = desk_number(answer);
+
+    must_be_written(printf("refused %u: %s", (unsigned)number, desk_reason(number)));
+    if (number == DESK_WRONG_LENGTH) {
+        must_be_written(printf(", %s reads %u bits", verb->word, (unsigned)verb->reads));
     }
+    if (number == DESK_BAD_PARITY) {
+        must_be_written(printf(", %u in disagreement", (unsigned)desk_count(answer)));
+    }
+    must_be_written(putchar('\n'));
 }
 
 /* Makes the call that the verb asks for, and prints its answer. */
@@ -189,7 +237,7 @@ static void call(const struct verb *verb, uint64_t identity, const struct field 
         return;
     }
     if (verb->receives) {
-        printf("good, %u in disagreement: ", (unsigned)desk_count(answer));
+        must_be_written(printf("good, %u in disagreement: ", (unsigned)desk_count(answer)));
     }
     print_bits(out, verb->writes);
 }
@@ -200,20 +248,35 @@ static void answer_line(const struct line *line)
     const struct verb *verb = find_verb(line);
 
     if (verb == NULL || (verb->access && !line->field[1].is_number)) {
-        puts(usage);
+        must_be_written(puts(usage));
         return;
     }
     /* Control has its bits where access has its identity, and looks at no identity. */
     call(verb, line->field[1].value, &line->field[line->fields - 1]);
 }
 
+/* Says so where the input did not end but could not be read. */
+static int status_of_input(void)
+{
+    if (!ferror(stdin)) {
+        return EXIT_SUCCESS;
+    }
+    fprintf(stderr, "desk: the input could not be read: %s\n", strerror(errno));
+    return EXIT_FAILURE;
+}
+
 int main(void)
 {
     struct line line;
+    int status;
 
+    clear(&line);
+    pass_over_mark(&line);
     while (read_line(&line)) {
         answer_line(&line);
+        clear(&line);
     }
-    /* Only an answer that could not be written is a failure. */
-    return fflush(stdout) != 0 || ferror(stdout);
+    status = status_of_input();
+    must_be_written(fflush(stdout));
+    return status;
 }

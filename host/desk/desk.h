@@ -1,6 +1,9 @@
 /*
  * The desk: access and control blocks of GSM 05.03, sent and received by the proved library desk.
  *
+ * The library is libdesk.a, for Linux on x86-64: an archive of ELF objects that are called by the System V convention. A
+ * program that links it is an x86-64 program; README.md has the lines that build and run one, there and on Arm.
+ *
  * A bit is one byte, 0 or 1. Each call reads one buffer of bits and writes another; each buffer is passed as its address
  * and its length in bytes. No address may be null, not even for length 0, and the two buffers must not overlap. Nothing
  * else is asked of the caller: every length, every byte and every identity has its answer. A call keeps nothing for the
@@ -12,6 +15,10 @@
  * Each call answers one number, 65536 times the refusal and then the count; desk_number and desk_count take it apart.
  * Where the number is 0, the call has written every byte of its output buffer. Where it is a refusal, every byte of the
  * output buffer is what it was before. What stands in the output buffer before the call is never looked at.
+ *
+ * A call has no state. Any number of threads may call at the same time, as long as none of them writes a buffer that another
+ * one uses. A call may be interrupted by another one, and a signal handler may make it: of the C library it calls memcpy and
+ * memset alone, both of which POSIX lets a handler call. It needs at most DESK_STACK_BYTES of stack.
  */
 #ifndef DESK_H
 #define DESK_H
@@ -23,6 +30,15 @@
 extern "C" {
 #endif
 
+/*
+ * The version of these calls. It grows when a call, a number or a length changes, and a program can ask for the one it needs:
+ *
+ *     #if DESK_VERSION < 2
+ *     #error "this program needs version 2 of the desk"
+ *     #endif
+ */
+#define DESK_VERSION 1
+
 /* The length of each buffer. */
 enum {
     DESK_ACCESS_BITS = 8,          /* what an access burst carries */
@@ -31,6 +47,15 @@ enum {
     DESK_CONTROL_CODED_BITS = 456, /* a control block as it is sent */
     DESK_HIGHEST_IDENTITY = 63     /* of a base station */
 };
+
+/*
+ * Bytes of stack that are enough for any of the calls: the most that host/desk/stack.c saw one of them use, 4,360, rounded up
+ * to the next 1,024. It is measured and not proved, with the library as the toolchain in toolchain.txt builds it. On shared
+ * libraries the first call used the most: memcpy and memset are looked for then, and the processor's registers are kept on
+ * the stack meanwhile. Every other call used at most 904, and so did the first in programs linked with -static or with
+ * -Wl,-z,now.
+ */
+enum { DESK_STACK_BYTES = 5120 };
 
 /* The number in an answer. Where several of the first three apply, the lowest is given. */
 enum desk_refusal {
@@ -51,6 +76,25 @@ static inline uint32_t desk_number(uint32_t answer)
 static inline uint32_t desk_count(uint32_t answer)
 {
     return answer % 65536;
+}
+
+/* The reason of a number in words, those of the table of refusals in README.md; never null. */
+static inline const char *desk_reason(uint32_t number)
+{
+    switch (number) {
+    case DESK_NO_REFUSAL:
+        return "done";
+    case DESK_WRONG_LENGTH:
+        return "a buffer has the wrong length";
+    case DESK_NOT_A_BIT:
+        return "a bit is neither 0 nor 1";
+    case DESK_WRONG_IDENTITY:
+        return "the identity is over 63";
+    case DESK_BAD_PARITY:
+        return "the parity is bad";
+    default:
+        return "no refusal has this number";
+    }
 }
 
 /*

@@ -1,6 +1,7 @@
 //! The kit's line protocol: a word and its arguments, parted by single spaces. One sending and one
 //! receiving stream live through all of the lines.
 
+use crate::handbook;
 use crate::model::burst::FOUR_BURSTS;
 use crate::model::channel::{self, Received, NO_IDENTITY};
 use crate::model::receiving_stream::{Receiver, Taken, LENT_TO_TAKE};
@@ -146,6 +147,9 @@ impl Kit {
                 *self = Kit::fresh();
                 Some(Told::words("fresh".to_string()))
             }
+            [b"help"] => Some(Told::words(handbook::words().join(" "))),
+            [b"help", word] => handbook::help(word).map(Told::words),
+            [b"why", refusal] => handbook::why(number(refusal)?).map(Told::words),
             _ => None,
         }
     }
@@ -208,10 +212,10 @@ mod tests {
         }
     }
 
-    /// A page of lines in, a page of answers out.
+    /// A text of lines in, a page of answers out.
     fn page_of(input: &[u8]) -> String {
         let mut kit = Kit::fresh();
-        String::from_utf8(page::answers(input, |line| kit.answer(line))).unwrap()
+        String::from_utf8(page::answers_to_text(input, |line| kit.answer(line))).unwrap()
     }
 
     /// All characters are bits, and so many.
@@ -278,9 +282,36 @@ mod tests {
     fn pages_are_answered_line_by_line() {
         assert_eq!(page_of(b""), "");
         assert_eq!(page_of(b"\n\n"), "?\n?\n");
-        // A last line without its newline is answered; a carriage return is one character more.
+        // A last line without its newline is answered.
         assert_eq!(page_of(b"sch \nsch 2"), "refused 1\nrefused 1\n");
-        assert_eq!(page_of(b"access 0 00000000\r\n"), "refused 1\n");
+    }
+
+    #[test]
+    fn a_text_from_windows_is_answered_like_any_other() {
+        let text = page_of(b"\xef\xbb\xbfaccess 0 00000000\r\nfresh\r\n\r\n");
+        assert_eq!(text, page_of(b"access 0 00000000\nfresh\n\n"));
+        assert!(text.ends_with("0011\nfresh\n?\n"));
+        // A second carriage return is one character more, and so is one without its newline.
+        assert_eq!(page_of(b"access 0 00000000\r\r\n"), "refused 1\n");
+        assert_eq!(page_of(b"access 0 00000000\r"), "refused 1\n");
+        assert_eq!(page_of(b"fresh\n\xef\xbb\xbffresh\n"), "fresh\n?\n");
+    }
+
+    #[test]
+    fn the_limit_of_a_line_is_on_what_remains() {
+        for (bits, end, expected) in [
+            (995, "\r\n", "refused 1\n"),
+            (996, "\r\n", "?\n"),
+            (994, "\r\r\n", "refused 1\n"),
+            (995, "\r\r\n", "?\n"),
+            (994, "\r", "refused 1\n"),
+            (995, "\r", "?\n"),
+        ] {
+            let line = format!("send {}{}", "0".repeat(bits), end);
+            assert_eq!(page_of(line.as_bytes()), expected);
+            let marked = [&page::MARK[..], line.as_bytes()].concat();
+            assert_eq!(page_of(&marked), expected);
+        }
     }
 
     #[test]
@@ -695,6 +726,103 @@ mod tests {
             let line = format!("{}{{0*{}}}", words, length - words.len());
             assert_eq!(answer_to(&line), expected);
         }
+    }
+
+    /// The words of the kit's verbs, in the order of the handbook.
+    fn verbs() -> Vec<String> {
+        let channels = CHANNELS.map(|channel| channel.name.to_string());
+        let asked = CHANNELS.map(|channel| format!("{}?", channel.name));
+        let of_streams = ["send", "end", "take", "fresh"].map(String::from);
+        let others = ["lend", "trellis", "help", "why"].map(String::from);
+        [&channels[..], &asked, &of_streams, &others].concat()
+    }
+
+    #[test]
+    fn help_lists_the_verbs() {
+        assert_eq!(answer_to("help"), verbs().join(" "));
+    }
+
+    /// A line of the handbook with something for each of its capitals.
+    fn filled_in(line: &str) -> String {
+        let fill_in = |field| match field {
+            "WORD" | "LINE" => "end",
+            "ID" | "N" | "B" | "D" | "E" | "R" => "1",
+            word => word,
+        };
+        let fields: Vec<&str> = line.split(' ').map(fill_in).collect();
+        fields.join(" ")
+    }
+
+    #[test]
+    fn the_line_of_every_verb_is_understood() {
+        for word in verbs() {
+            let help = answer_to(&format!("help {}", word));
+            let (line, _) = help.split_once(": ").unwrap();
+            assert_eq!(line.split(' ').next(), Some(word.as_str()));
+            assert_ne!(answer_to(&filled_in(line)), "?", "{}", line);
+        }
+    }
+
+    #[test]
+    fn help_answers_the_row_of_a_word() {
+        let sch = "sch D: the 78 bits of SCH that carry the 25 bits D";
+        let end = "end: the last four bursts of the stream, 464 bits";
+        let why = "why N: refusal N in words";
+        answered(&[("help sch", sch), ("help end", end), ("help why", why)]);
+    }
+
+    #[test]
+    fn help_has_a_word_of_the_table_or_none() {
+        not_understood(&["help ", "help  ", "help  end", "help end ", " help"]);
+        not_understood(&["help end end", "help sch D", "help end?", "help sch??"]);
+        not_understood(&["help spee", "help speechx", "help Speech", "help 1"]);
+        not_understood(&["help `end`", "help line", "help D", "help end\r"]);
+        not_understood(&["help\tend", "help\0", "help?", "help? end", "?"]);
+        not_understood(&["Help", "HELP", "hel", "helps", "helps end"]);
+    }
+
+    #[test]
+    fn why_answers_a_refusal_in_words() {
+        answered(&[
+            ("why 1", "a buffer has the wrong length"),
+            ("why 003", "the identity is over 63"),
+            ("why 00009", "four of the eight flags are 1"),
+        ]);
+    }
+
+    #[test]
+    fn why_has_the_number_of_a_refusal() {
+        not_understood(&["why", "why ", "why  ", "why 0", "why 00000", "why 10"]);
+        not_understood(&["why 259", "why 65535", "why 65536", "why 65539"]);
+        not_understood(&["why 000003", "why x", "why -1", "why 3.", "why end"]);
+        not_understood(&["why 3 3", "why 3 ", "why  3", " why 3", "why\t3"]);
+        not_understood(&["Why 3", "whys 3", "wh 3", "why? 3", "why refused 3"]);
+    }
+
+    #[test]
+    fn help_and_why_write_nothing_that_is_lent() {
+        not_understood(&["lend 5 7 help", "lend 5 7 help end", "lend 5 7 why 3"]);
+        not_understood(&["lend 0 7 help", "lend 464 7 help end", "lend 600 7 why 3"]);
+    }
+
+    #[test]
+    fn help_and_why_leave_the_streams() {
+        let (send, first, second) = ("send {1*260}", "take 0 {0*116}", "take 1 {0*116}");
+        let alone = answers_to(&[send, first, send, second, "end"]);
+        let between = answers_to(&[
+            send,
+            "help",
+            first,
+            "help fresh",
+            send,
+            "help end",
+            "why 7",
+            second,
+            "lend 464 7 help end",
+            "end",
+        ]);
+        let kept = [0, 2, 4, 7, 9].map(|k| between[k].clone());
+        assert_eq!(kept[..], alone[..]);
     }
 
     #[test]

@@ -11,19 +11,23 @@
 //! reference make-lessons SEED COUNT    prints COUNT kit lines of lessons, each on fresh streams
 //! reference make-stream SEED BLOCKS    prints the kit lines of one stream of BLOCKS blocks
 //! reference make-lend SEED COUNT       prints COUNT kit lines, most of which lend a buffer
+//! reference make-help SEED COUNT       prints COUNT kit lines, most of which ask for help
+//! reference make-windows SEED COUNT    prints COUNT kit lines as a text from Windows has them
 //! reference make-full SEED             prints the kit lines of one stream of 16,383 blocks
 //! reference make-sheet SEED COUNT      prints COUNT access sheet lines
 //!
 //! What the papers define stands in model/, what chance gives in chance/, what makes lines in
 //! makers/. A channel is a row of the table in model/channel.rs, and its formulas stand in
 //! model/coding.rs and model/receiving.rs; a refusal is a row of model/refusal.rs, a verb a row in
-//! kit.rs, an example a row in examples.rs, a mode that makes lines a row of makers/mod.rs.
+//! kit.rs, an example a row in examples.rs, a mode that makes lines a row of makers/mod.rs. What is
+//! said of a verb or of a refusal is a row of README.
 
 // Loops keep the index k of the standard, so that each reads like its formula.
 #![allow(clippy::needless_range_loop, clippy::manual_memcpy)]
 
 mod chance;
 mod examples;
+mod handbook;
 mod kit;
 mod makers;
 mod model;
@@ -90,7 +94,7 @@ fn run(task: Task) -> Result<()> {
     let output = match task {
         Task::Answer => {
             let mut kit = Kit::fresh();
-            page::answers(&standard_input()?, |line| kit.answer(line))
+            page::answers_to_text(&standard_input()?, |line| kit.answer(line))
         }
         Task::Sheet => page::answers(&standard_input()?, sheet::answer),
         Task::Examples => page::of_lines(&examples::lines()),
@@ -139,7 +143,7 @@ mod tests {
     }
 
     #[test]
-    fn the_eleven_commands_are_known() {
+    fn the_thirteen_commands_are_known() {
         assert!(matches!(task_of("answer"), Some(Task::Answer)));
         assert!(matches!(task_of("sheet"), Some(Task::Sheet)));
         assert!(matches!(task_of("examples"), Some(Task::Examples)));
@@ -149,6 +153,8 @@ mod tests {
         makes("make-lessons 5 500", "make-lessons", 5, 500);
         makes("make-stream 4 600", "make-stream", 4, 600);
         makes("make-lend 2 700", "make-lend", 2, 700);
+        makes("make-help 1 800", "make-help", 1, 800);
+        makes("make-windows 0 900", "make-windows", 0, 900);
         makes("make-full 3", "make-full", 3, 0);
         makes("make-sheet 8 200", "make-sheet", 8, 200);
     }
@@ -157,8 +163,8 @@ mod tests {
     fn the_usage_names_them() {
         let words = "usage: reference answer | sheet | examples | make-lines SEED COUNT | \
             make-received SEED COUNT | make-views SEED COUNT | make-lessons SEED COUNT | \
-            make-stream SEED BLOCKS | make-lend SEED COUNT | make-full SEED | \
-            make-sheet SEED COUNT";
+            make-stream SEED BLOCKS | make-lend SEED COUNT | make-help SEED COUNT | \
+            make-windows SEED COUNT | make-full SEED | make-sheet SEED COUNT";
         assert_eq!(usage(), words);
     }
 
@@ -177,6 +183,11 @@ mod tests {
             "make-lessons 7",
             "make-stream 7",
             "make-stream 7 x",
+            "make-help",
+            "make-help 7",
+            "make-windows 7 x",
+            "make-window 7 1",
+            "help",
             "make-full",
             "make-full x",
             "make-full 7 1",

@@ -13,18 +13,16 @@ fn main() {
     answer_all(&mut chunk, &mut line);
 }
 
-// Answers each line as it comes; the turns are counted, since nothing says that the input ends.
+// Answers each line as it comes, while the answers can be written; the turns are counted, since nothing says that the input ends.
 fn answer_all(chunk: &mut [u8], line: &mut [u8]) {
     let mut rest = Span { at: 0, end: 0 };
     let mut turns = u64::MAX;
     while turns > 0 {
         let taken = take_line(chunk, rest, line);
         let kept = taken.kept;
-        // a last line without its newline counts if it is not empty
-        if taken.more || kept > 0 {
-            write_answer(&line[0..kept]);
-        }
-        if !taken.more {
+        let more = taken.more;
+        let written = answer_line(&line[0..kept], more);
+        if !written || !more {
             return;
         }
         rest = taken.rest;
@@ -32,9 +30,17 @@ fn answer_all(chunk: &mut [u8], line: &mut [u8]) {
     }
 }
 
+// Answers a line, and says whether the answer could be written. A last line without its newline counts if it is not empty.
+fn answer_line(line: &[u8], ended: bool) -> bool {
+    if ended || line.len() > 0 {
+        return write_answer(line);
+    }
+    true
+}
+
 // Writes the answer to a line.
-fn write_answer(line: &[u8]) {
+fn write_answer(line: &[u8]) -> bool {
     let mut out = [0u8; 40];
     let n = answer(line, &mut out);
-    write_line(&mut out, n);
+    write_line(&mut out, n)
 }

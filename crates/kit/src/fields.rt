@@ -25,30 +25,37 @@ pub fn fields(line: &[u8]) -> usize {
 pub fn field(line: &[u8], k: usize) -> &[u8]
     ensures { λ r. ⌜ length (now r) ≤ length (now (line .entry)) ⌝ }
 {
-    let start = start_of(line, k);
-    let end = find(line, start, b' ');
-    &line[start..end]
+    part(line, k, b' ')
+}
+
+// What stands between the gaps of a text, from 0; where there is no part k, nothing.
+pub fn part(text: &[u8], k: usize, gap: u8) -> &[u8]
+    ensures { λ r. ⌜ length (now r) ≤ length (now (text .entry)) ⌝ }
+{
+    let start = start_of(text, k, gap);
+    let end = find(text, start, gap);
+    &text[start..end]
 }
 
 // What stands from field k on; where there is none, nothing.
 pub fn rest_of(line: &[u8], k: usize) -> &[u8]
     ensures { λ r. ⌜ length (now r) ≤ length (now (line .entry)) ⌝ }
 {
-    let start = start_of(line, k);
+    let start = start_of(line, k, b' ');
     &line[start..]
 }
 
-// The place after k spaces, or the line's end.
-fn start_of(line: &[u8], k: usize) -> usize
-    ensures { λ r. ⌜ r ≤ length (now (line .entry)) ⌝ }
+// The place after k gaps, or the text's end.
+fn start_of(text: &[u8], k: usize, gap: u8) -> usize
+    ensures { λ r. ⌜ r ≤ length (now (text .entry)) ⌝ }
 {
     let mut left = k;
     let mut at = 0;
-    while at < line.len() {
+    while at < text.len() {
         if left == 0 {
             return at;
         }
-        if line[at] == b' ' {
+        if text[at] == gap {
             left -= 1;
         }
         at += 1;

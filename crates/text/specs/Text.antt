@@ -7,7 +7,7 @@ use Prim.Native.Char.{code}
 use Prim.Native.String.{String}
 use Prim.Native.String.{[] as end, _∷_ as _then_}
 use lib.Dec.{leb, eqb}
-use lib.ListN.{length, take, drop}
+use lib.ListN.{length, getD, take, drop}
 use Rattle.bits.specs.Bits.{pick, both}
 use Rattle.io.specs.Digits.{digits as digitsOf, Fewest}
 
@@ -26,6 +26,18 @@ sameBytes [] [] = true
 sameBytes [] (b ∷ w) = false
 sameBytes (a ∷ v) [] = false
 sameBytes (a ∷ v) (b ∷ w) = both (eqb a b) (sameBytes v w)
+
+-- the byte order mark, with which editors for Windows begin a text
+abbrev pub mark : List ℕ
+mark = 239 ∷ 187 ∷ 191 ∷ []
+
+-- a text without the mark that it may begin with
+unfoldable pub withoutMark : List ℕ → List ℕ
+withoutMark text = pick (sameBytes (take 3 text) mark) (drop 3 text) text
+
+-- a line without the carriage return that it may end in
+unfoldable pub withoutReturn : List ℕ → List ℕ
+withoutReturn line = pick (eqb (getD line (length line - 1) 0) 13) (take (length line - 1) line) line
 
 -- the word stands in `out` from place n on, and the rest of `out` is left
 unfoldable pub putAt : List ℕ → ℕ → List ℕ → List ℕ

@@ -16,3 +16,5 @@ pub use read::digit;
 pub use read::find;
 pub use read::read_bits;
 pub use read::same;
+pub use read::without_mark;
+pub use read::without_return;

@@ -1,6 +1,7 @@
 // Lines of standard input, in whatever chunks it comes, and lines of standard output.
 use crate::put::put_byte;
 use crate::read::find;
+use libc::STDERR_FILENO;
 use libc::STDIN_FILENO;
 use libc::STDOUT_FILENO;
 ghost use Prim.Native.Nat.{_≤_, _<_};
@@ -73,11 +74,14 @@ fn take_part(chunk: &[u8], rest: Span, line: &mut [u8], kept: usize) -> Taken
     }
 }
 
-// Reads the next chunk: nothing at the end of the input, or where it cannot be read.
+// Reads the next chunk: nothing at the end of the input, or where it cannot be read, which is then said.
 fn next_chunk(chunk: &mut [u8]) -> Span
     ensures { λ r. ⌜ Within r (now (chunk .exit)) ⌝ }
 {
     let got = libc::read(STDIN_FILENO, chunk);
+    if got < 0 {
+        io::write_all(STDERR_FILENO, b"the input could not be read\n");
+    }
     let end = io::count(got, chunk);
     Span { at: 0, end }
 }
@@ -100,12 +104,16 @@ fn least(a: usize, b: usize) -> usize
     if a < b { a } else { b }
 }
 
-// Writes the first n bytes of `out` and a newline, by one write, so that they are seen at once; what is written stands in no contract of io,
-// so this one says only what is left in `out`.
-pub fn write_line(out: &mut [u8], n: usize)
+// Writes the first n bytes of `out` and a newline, by one write, so that they are seen at once; false where they cannot be written, which is
+// then said. What is written stands in no contract of io, so this one says only what is left in `out`.
+pub fn write_line(out: &mut [u8], n: usize) -> bool
     requires { ⌜ n < length (now out) ⌝ }
     ensures { λ _. ⌜ now (out .exit) ≡ putAt (now (out .entry)) n (10 ∷ []) ⌝ }
 {
     let end = put_byte(out, n, b'\n');
-    io::write_all(STDOUT_FILENO, &out[0..end]);
+    let written = io::write_all(STDOUT_FILENO, &out[0..end]);
+    if !written {
+        io::write_all(STDERR_FILENO, b"an answer could not be written\n");
+    }
+    written
 }

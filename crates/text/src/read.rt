@@ -3,7 +3,7 @@ ghost use Prim.Native.Nat.{_≤_};
 ghost use mathlib.Core.List.{map};
 ghost use mathlib.Core.Path.{_≡_};
 ghost use lib.ListN.{length};
-ghost use Rattle.text.specs.Text.{digitOf, sameBytes, putAt};
+ghost use Rattle.text.specs.Text.{digitOf, sameBytes, putAt, withoutMark, withoutReturn};
 
 // Where the byte next stands from `at` on, or the end.
 pub fn find(bytes: &[u8], at: usize, byte: u8) -> usize
@@ -57,4 +57,33 @@ pub fn same(a: &[u8], b: &[u8]) -> bool
         }
     }
     true
+}
+
+// A text without the byte order mark that it may begin with.
+pub fn without_mark(text: &[u8]) -> &[u8]
+    ensures { λ r. ⌜ now r ≡ withoutMark (now (text .entry)) ⌝ }
+{
+    if text.len() < 3 {
+        return text;
+    }
+    if same(&text[0..3], b"\xef\xbb\xbf") {
+        &text[3..]
+    } else {
+        text
+    }
+}
+
+// A line without the carriage return that it may end in.
+pub fn without_return(line: &[u8]) -> &[u8]
+    ensures { λ r. ⌜ now r ≡ withoutReturn (now (line .entry)) ⌝ }
+{
+    if line.len() == 0 {
+        return line;
+    }
+    let last = line.len() - 1;
+    if line[last] == b'\r' {
+        &line[0..last]
+    } else {
+        line
+    }
 }

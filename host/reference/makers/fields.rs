@@ -185,6 +185,13 @@ pub fn any_bytes(random: &mut Random, length: usize) -> Vec<u8> {
     (0..length).map(|_| random.any_byte()).collect()
 }
 
+/// Puts another byte that is no bit in the place of a carriage return at the end of a line.
+pub fn end_otherwise(line: &mut [u8]) {
+    if let [.., last @ b'\r'] = line {
+        *last = b'\x0b';
+    }
+}
+
 /// The length of a line at the limit of 1,000 bytes or over it.
 pub fn long_length(random: &mut Random) -> usize {
     let beyond = 1002 + random.below(7000);
@@ -233,6 +240,20 @@ mod tests {
             .all(|&identity| (64..=65_535).contains(&identity)));
         for limit in LIMITS {
             assert!(made.contains(&limit), "{}", limit);
+        }
+    }
+
+    #[test]
+    fn a_return_at_the_end_alone_is_another_byte() {
+        for (line, expected) in [
+            (&b"end\r"[..], &b"end\x0b"[..]),
+            (b"end\r\r", b"end\r\x0b"),
+            (b"\rend", b"\rend"),
+            (b"", b""),
+        ] {
+            let mut line = line.to_vec();
+            end_otherwise(&mut line);
+            assert_eq!(line, expected);
         }
     }
 

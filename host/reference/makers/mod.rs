@@ -2,6 +2,7 @@
 
 mod fields;
 mod full_lines;
+mod help_lines;
 mod lend_lines;
 mod lesson;
 mod lesson_lines;
@@ -13,6 +14,7 @@ mod sheet_lines;
 #[cfg(test)]
 mod sorts;
 mod view_lines;
+mod windows_lines;
 
 use crate::chance::random::Random;
 
@@ -21,50 +23,73 @@ pub struct Maker {
     pub mode: &'static str,
     /// The numbers behind the mode, as the usage calls them: a seed, and mostly how many.
     pub numbers: &'static str,
+    /// A line may end in a carriage return. The kit passes over it, so that it must not where the
+    /// line is meant as it stands.
+    with_returns: bool,
     /// So many lines, without their newlines.
     lines: fn(&mut Random, usize) -> Vec<Vec<u8>>,
 }
 
 /// All makers.
-pub static MAKERS: [Maker; 8] = [
+pub static MAKERS: [Maker; 10] = [
     Maker {
         mode: "make-lines",
         numbers: "SEED COUNT",
+        with_returns: false,
         lines: |random, count| each(random, count, sent_lines::line),
     },
     Maker {
         mode: "make-received",
         numbers: "SEED COUNT",
+        with_returns: false,
         lines: |random, count| each(random, count, received_lines::line),
     },
     Maker {
         mode: "make-views",
         numbers: "SEED COUNT",
+        with_returns: false,
         lines: |random, count| each(random, count, view_lines::line),
     },
     Maker {
         mode: "make-lessons",
         numbers: "SEED COUNT",
+        with_returns: false,
         lines: lesson_lines::lessons,
     },
     Maker {
         mode: "make-stream",
         numbers: "SEED BLOCKS",
+        with_returns: false,
         lines: lesson_lines::stream,
     },
     Maker {
         mode: "make-lend",
         numbers: "SEED COUNT",
+        with_returns: false,
         lines: lend_lines::lines,
+    },
+    Maker {
+        mode: "make-help",
+        numbers: "SEED COUNT",
+        with_returns: false,
+        lines: help_lines::lines,
+    },
+    Maker {
+        mode: "make-windows",
+        numbers: "SEED COUNT",
+        with_returns: true,
+        lines: windows_lines::lines,
     },
     Maker {
         mode: "make-full",
         numbers: "SEED",
+        with_returns: false,
         lines: |random, _| full_lines::lines(random),
     },
     Maker {
         mode: "make-sheet",
         numbers: "SEED COUNT",
+        with_returns: true,
         lines: |random, count| each(random, count, sheet_lines::line),
     },
 ];
@@ -79,7 +104,10 @@ impl Maker {
     pub fn page(&self, seed: u64, count: usize) -> Vec<u8> {
         let mut random = Random::new(seed);
         let mut page = Vec::new();
-        for line in (self.lines)(&mut random, count) {
+        for mut line in (self.lines)(&mut random, count) {
+            if !self.with_returns {
+                fields::end_otherwise(&mut line);
+            }
             page.extend(line);
             page.push(10);
         }
@@ -99,6 +127,7 @@ mod tests {
         let maker = Maker {
             mode: "",
             numbers: "",
+            with_returns: true,
             lines: |random, count| each(random, count, |_| b"x".to_vec()),
         };
         let pages: Vec<Vec<u8>> = (0..100).map(|seed| maker.page(seed, 3)).collect();
@@ -114,6 +143,19 @@ mod tests {
             for line in (maker.lines)(&mut Random::new(12), 5000) {
                 assert!(!line.contains(&10), "{}", maker.mode);
             }
+        }
+    }
+
+    /// The page has a carriage return before a newline.
+    fn has_returns(page: &[u8]) -> bool {
+        page.windows(2).any(|two| two == b"\r\n")
+    }
+
+    #[test]
+    fn a_return_stands_before_a_newline_where_it_may() {
+        for maker in MAKERS.iter().filter(|maker| maker.mode != "make-full") {
+            let page = maker.page(16, 3000);
+            assert_eq!(has_returns(&page), maker.with_returns, "{}", maker.mode);
         }
     }
 

@@ -7,10 +7,10 @@ use Rattle.kit.proofs.answer_all.Statement.{statement}
 use Rattle.kit.proofs.answer_all.Tie as tie
 
 abbrev Inv-loop : tie.InvT-loop
-Inv-loop chunk₀ line₀ rest₀ streams₀ turns₀ chunk line rest streams turns = Within rest chunk × (length chunk ≡ length chunk₀) × (length line ≡ length line₀)
+Inv-loop chunk₀ line₀ rest₀ streams₀ first₀ turns₀ chunk line rest streams first turns = Within rest chunk × (length chunk ≡ length chunk₀) × (length line ≡ length line₀)
 
 abbrev μ-loop : tie.MeasureT-loop
-μ-loop chunk₀ line₀ rest₀ streams₀ turns₀ chunk line rest streams turns = turns
+μ-loop chunk₀ line₀ rest₀ streams₀ first₀ turns₀ chunk line rest streams first turns = turns
 
 pub answer-all-spec : {M : Type 1} → statement M
 answer-all-spec =

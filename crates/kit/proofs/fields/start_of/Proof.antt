@@ -1,4 +1,4 @@
--- `start_of` goes towards the end of the line and never past it. Assumes nothing.
+-- `start_of` goes towards the end of the text and never past it. Assumes nothing.
 use Prim.Native.Nat.{_-_, _≤_}
 use borrow.Author.Needs.{needs}
 use lib.ListN.{length}
@@ -6,10 +6,10 @@ use Rattle.kit.proofs.fields.start_of.Statement.{statement}
 use Rattle.kit.proofs.fields.start_of.Tie as tie
 
 abbrev Inv-loop : tie.InvT-loop
-Inv-loop line k left₀ at₀ left at = at ≤ length line
+Inv-loop text k gap left₀ at₀ left at = at ≤ length text
 
 abbrev μ-loop : tie.MeasureT-loop
-μ-loop line k left₀ at₀ left at = length line - at
+μ-loop text k gap left₀ at₀ left at = length text - at
 
 pub start-of-spec : {M : Type 1} → statement M
 start-of-spec =
