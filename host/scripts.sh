@@ -35,11 +35,12 @@ stand_in() { # NAME < TEXT
 
 # A toolchain whose proofs are words, and whose programs say what they read. It notes what it is asked for.
 make_toolchain() {
+    mkdir -p "$fake" && cp toolchain.txt "$fake/version"
     stand_in bin/rt <<EOF
 echo "rt \$*" >>"$fake/asked"
 case \$1 in
 doc) echo "$fake/docs/START-HERE.md" ;;
-version) cat "$copy/toolchain.txt" ;;
+version) cat "$fake/version" ;;
 check)
     [ ! -f "$fake/wrong" ] || { echo "rt: one NOT PROVED (exit 1, 2 s)"; exit 1; }
     mkdir -p target/bin
@@ -174,6 +175,17 @@ rt: one NOT PROVED (exit 1, 2 s)
 rt ended with status 1"
 }
 
+# Another toolchain is said, and everything is proved again with it.
+notes_another_toolchain() {
+    say other >"$fake/version"
+    run_with "$few:$fake/bin" "$copy/kit"
+    cp toolchain.txt "$fake/version"
+    ended 0 '' "note: proved with the toolchain '$(cat toolchain.txt)'; the one here is 'other'
+proving and building the program kit: some minutes the first time; each crate is named when it is done
+    one proved (2 s)
+    kit proved (3 s)"
+}
+
 # A second run says that another one is running, and goes on when it is done.
 waits_for_another() {
     run_with "$few:$fake/bin" "$copy/kit" # so that nothing is left to prove
@@ -182,6 +194,15 @@ waits_for_another() {
     run_with "$few:$fake/bin" "$copy/kit"
     wait $!
     ended 0 '' "another run is proving or testing in this folder; this one goes on when that one is done"
+}
+
+# Can this machine give a terminal?
+has_terminals() { script -qec true /dev/null </dev/null >/dev/null 2>&1; }
+
+# At a terminal a word says what to type; elsewhere there is none.
+greets() { # SCRIPT HOW
+    printf '' | timeout 100 script -qec "./$1" /dev/null >"$room/out" 2>&1
+    tr -d '\r' <"$room/out" | grep -qx "$2; Ctrl-D at the beginning of a line ends it" || { head -c 600 "$room/out" && return 1; }
 }
 
 # ---- installing
@@ -200,8 +221,8 @@ installs_nothing_twice() { install_as 0 x86_64 need_packages 'to see' present pr
 installs_what_is_missing() {
     install_as 0 x86_64 need_packages 'to see' present missing another && ended 0 '' 'installing packages of Debian, to see: missing another' &&
         asked 'apt-get -q update
-apt-get -s install -y --no-install-recommends --no-upgrade missing another
-apt-get -q install -y --no-install-recommends --no-upgrade missing another'
+apt-get -s install -y --no-install-recommends --no-upgrade --no-remove missing another
+apt-get -q install -y --no-install-recommends --no-upgrade --no-remove missing another'
 }
 
 upgrades_nothing() {
@@ -215,10 +236,10 @@ to allow it: apt-get install -y --no-install-recommends old' && ! grep -q 'apt-g
 says_the_command() {
     install_as 1000 x86_64 need_packages 'to see' missing
     ended 1 '' 'packages of Debian that are needed to see: missing
-only root may install them, by: apt-get update && apt-get install -y --no-install-recommends --no-upgrade missing' && asked '' || return 1
+only root may install them, by: apt-get update && apt-get install -y --no-install-recommends --no-upgrade --no-remove missing' && asked '' || return 1
     install_as 1000 aarch64 need_packages 'to see' missing:amd64
     ended 1 '' 'packages of Debian that are needed to see: missing:amd64
-only root may install them, by: dpkg --add-architecture amd64 && apt-get update && apt-get install -y --no-install-recommends --no-upgrade missing:amd64' &&
+only root may install them, by: dpkg --add-architecture amd64 && apt-get update && apt-get install -y --no-install-recommends --no-upgrade --no-remove missing:amd64' &&
         asked ''
 }
 
@@ -228,6 +249,13 @@ installs_for_c() {
     grep -qx 'packages of Debian that are needed to compile C: gcc' "$room/err" || return 1
     install_as 1000 aarch64 need_c
     grep -qx 'packages of Debian that are needed to compile C for x86-64 and to run it: gcc-x86-64-linux-gnu libc6-dev-amd64-cross qemu-user' "$room/err"
+}
+
+# Rust's library for x86-64 is fetched, not installed.
+fetches_for_rust() {
+    install_as 0 aarch64 need_rust_std
+    [ "$(head -n 1 "$room/err")" = "fetching Debian's package libstd-rust-dev for x86-64 into .debian, to compile Rust for x86-64" ] &&
+        grep -q '^apt-get .* download libstd-rust-dev$' "$fake/asked" && ! grep -q install "$fake/asked"
 }
 
 # ---- answers that nobody can read, with the programs themselves
@@ -292,6 +320,7 @@ test_scripts() {
     mv "$fake/bin/uname" "$fake/bin/id" "$fake" # the toolchain's stand-in is for this machine
     try_script "each crate is named when it is proved, and what is proved starts at once" shows_crates
     try_script "a proof that fails is shown" shows_failure
+    try_script "another toolchain is said" notes_another_toolchain
     try_script "a second run says that it waits" waits_for_another
     mv "$fake/uname" "$fake/id" "$fake/bin"
     try_script "nothing is installed that is there" installs_nothing_twice
@@ -299,6 +328,12 @@ test_scripts() {
     try_script "nothing is upgraded" upgrades_nothing
     try_script "who may not install is told the command" says_the_command
     try_script "C asks for no more than it needs" installs_for_c
+    try_script "Rust's library for x86-64 is fetched, not installed" fetches_for_rust
+    if has_terminals; then
+        try_script "./kit says what to type" greets kit 'type a line, as help, which lists the words'
+        try_script "./sheet says what to type" greets sheet 'type a line, as 63 00000000'
+        try_script "./desk says what to type" greets desk 'type a line, as access 63 00000000'
+    fi
     try_script "./kit says that an answer could not be written" nothing_is_lost kit help 'kit: an answer could not be written'
     try_script "./sheet says that an answer could not be written" nothing_is_lost sheet '63 00000000' 'sheet: an answer could not be written'
     try_script "./desk says that an answer could not be written" nothing_is_lost desk "access 63 $(zeros 8)" \

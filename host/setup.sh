@@ -116,10 +116,14 @@ run_to_its_end() { # SCRIPT NAME
     return 1
 }
 
+# A word to whoever types, before the first line.
+greet() { [ ! -t 0 ] || complain "$1; Ctrl-D at the beginning of a line ends it"; } # HOW
+
 # Proves and builds a program, and runs it on what is typed or piped in.
-run_program() { # SCRIPT NAME
+run_program() { # SCRIPT NAME HOW
     find_toolchain && prove_program "$2" || return 1
     end_alone
+    greet "$3"
     run_to_its_end "$1" "$2"
 }
 
@@ -136,11 +140,11 @@ not_installed() { # PACKAGE...
 # The command that installs packages and upgrades none of those that are there.
 install_command() { # PACKAGE...
     case " $*" in *:amd64*) printf 'dpkg --add-architecture amd64 && ' ;; esac
-    say "apt-get update && apt-get install -y --no-install-recommends --no-upgrade $*"
+    say "apt-get update && apt-get install -y --no-install-recommends --no-upgrade --no-remove $*"
 }
 
 # What an installation would upgrade, for the sake of what it brings.
-upgraded_by() { apt-get -s install -y --no-install-recommends --no-upgrade "$@" | sed -n 's/^Inst \([^ ]*\) \[.*/\1/p'; } # PACKAGE...
+upgraded_by() { apt-get -s install -y --no-install-recommends --no-upgrade --no-remove "$@" | sed -n 's/^Inst \([^ ]*\) \[.*/\1/p'; } # PACKAGE...
 
 # Installs those packages that are missing, for a purpose; says so before, and upgrades nothing.
 need_packages() { # PURPOSE PACKAGE...
@@ -164,7 +168,7 @@ need_packages() { # PURPOSE PACKAGE...
         complain "to allow it: apt-get install -y --no-install-recommends $*"
         return 1
     fi
-    DEBIAN_FRONTEND=noninteractive apt-get -q install -y --no-install-recommends --no-upgrade "$@" >&2
+    DEBIAN_FRONTEND=noninteractive apt-get -q install -y --no-install-recommends --no-upgrade --no-remove "$@" >&2
 }
 
 # Installs the package that brings a command, where there is no such command.

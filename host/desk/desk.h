@@ -49,13 +49,12 @@ enum {
 };
 
 /*
- * Bytes of stack that are enough for any of the calls: the most that host/desk/stack.c saw one of them use, 4,360, rounded up
- * to the next 1,024. It is measured and not proved, with the library as the toolchain in toolchain.txt builds it. On shared
- * libraries the first call used the most: memcpy and memset are looked for then, and the processor's registers are kept on
- * the stack meanwhile. Every other call used at most 904, and so did the first in programs linked with -static or with
- * -Wl,-z,now.
+ * Bytes of stack that are enough for any of the calls. It is measured and not proved: host/desk/stack.c saw at most 904 in a call, with the
+ * library as the toolchain in toolchain.txt builds it, and 4,360 in the first call of a program on shared libraries, where memcpy and
+ * memset are looked for and the processor's registers are kept on the stack meanwhile. That part differs with the processor and with the C
+ * library, so nearly as much again is left for it; it falls away in a program that is linked with -static or with -Wl,-z,now.
  */
-enum { DESK_STACK_BYTES = 5120 };
+enum { DESK_STACK_BYTES = 8192 };
 
 /* The number in an answer. Where several of the first three apply, the lowest is given. */
 enum desk_refusal {

@@ -1,17 +1,9 @@
-// The answer to a line: a word, numbers and bits, any of which may be missing; or a line of the kit's own pages.
+// The answer to a line: a word, numbers and bits, any of which may be missing.
 use answers::Maybe;
 use answers::Returned;
 use coder::View;
 use stream::Kind;
 use stream::Values;
-
-// What the kit says of itself: its words, the line of a word, the line of a refusal, counted from 0; mostly nothing.
-pub enum Page {
-    Nothing,
-    Words,
-    Word(usize),
-    Reason(usize),
-}
 
 // The word is filled up with spaces. The first `count` of the numbers are said, and the first `bits` of the bytes that were written; where the
 // line lent the buffer itself, all of it is said, and that there is none.
@@ -21,7 +13,6 @@ pub struct Answer {
     pub count: usize,
     pub bits: usize,
     pub lent: bool,
-    pub page: Page,
 }
 
 const NO_WORD: [u8; 8] = *b"        ";
@@ -37,24 +28,6 @@ impl Answer {
             count: 0,
             bits: 0,
             lent: false,
-            page: Page::Nothing,
-        }
-    }
-
-    // The answer to a line that asks for nothing.
-    pub fn unknown() -> Self {
-        Self::new(*b"?       ")
-    }
-
-    // A line of the pages.
-    pub fn of_page(page: Page) -> Self {
-        Self {
-            word: NO_WORD,
-            numbers: [0; 16],
-            count: 0,
-            bits: 0,
-            lent: false,
-            page,
         }
     }
 
@@ -104,7 +77,6 @@ impl Answer {
                 count: 16,
                 bits: 0,
                 lent: false,
-                page: Page::Nothing,
             },
             Maybe::Some(number) => Self::new(REFUSED).with_number(number),
         }

@@ -9,6 +9,9 @@ mod reply;
 mod streams;
 mod verbs;
 
+use help::Question;
+use help::put_said;
+use help::question_of;
 use print::put_answer;
 use reply::reply;
 use streams::Streams;
@@ -76,8 +79,24 @@ fn answer_line(streams: Streams, taken: &[u8], first: bool, ended: bool) -> Next
     }
 }
 
-// Writes the answer to a line.
+// Writes the answer to a line: what the kit says of itself, or what comes of a call.
 fn write_answer(streams: Streams, line: &[u8]) -> Next {
+    match question_of(line) {
+        Question::Nothing => write_called(streams, line),
+        question => Next {
+            streams,
+            written: write_said(question),
+        },
+    }
+}
+
+fn write_said(question: Question) -> bool {
+    let mut out = [0u8; 1001];
+    let n = put_said(&mut out, question);
+    write_line(&mut out, n)
+}
+
+fn write_called(streams: Streams, line: &[u8]) -> Next {
     // as long as the longest that a line may lend
     let mut buffer = [0u8; 600];
     let said = reply(streams, line, &mut buffer);

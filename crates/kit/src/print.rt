@@ -1,11 +1,6 @@
-// An answer in characters: its word, its numbers and its bits, parted by spaces; or a line of the kit's own pages.
+// An answer in characters: its word, its numbers and its bits, parted by spaces.
 use crate::answer::Answer;
-use crate::answer::Page;
 use crate::fields::field;
-use crate::fields::part;
-use crate::pages::all_words;
-use crate::pages::help_page;
-use crate::pages::reasons_page;
 use text::put_byte;
 use text::put_number;
 use text::put_word;
@@ -15,37 +10,6 @@ ghost use lib.ListN.{length};
 
 // Puts the answer into `out`, and gives the place after it.
 pub fn put_answer(out: &mut [u8], answer: Answer, written: &[u8]) -> usize
-    requires { ⌜ (length (now written) ≤ 600) × (1000 ≤ length (now out)) ⌝ }
-    ensures { λ r. ⌜ r ≤ 1000 ⌝ }
-{
-    let page = answer.page;
-    match page {
-        Page::Nothing => put_told(out, answer, written),
-        Page::Words => {
-            let words = all_words();
-            put_line(out, &words)
-        }
-        Page::Word(k) => {
-            let help = help_page();
-            put_line(out, part(&help, k, b'\n'))
-        }
-        Page::Reason(k) => {
-            let reasons = reasons_page();
-            put_line(out, part(&reasons, k, b'\n'))
-        }
-    }
-}
-
-// A line, or as much of it as an answer may have.
-fn put_line(out: &mut [u8], line: &[u8]) -> usize
-    requires { ⌜ 1000 ≤ length (now out) ⌝ }
-    ensures { λ r. ⌜ r ≤ 1000 ⌝ }
-{
-    put_word(out, 0, first(line, 1000))
-}
-
-// The word, the numbers and the bits of an answer.
-fn put_told(out: &mut [u8], answer: Answer, written: &[u8]) -> usize
     requires { ⌜ (length (now written) ≤ 600) × (1000 ≤ length (now out)) ⌝ }
     ensures { λ r. ⌜ r ≤ 1000 ⌝ }
 {
@@ -118,7 +82,7 @@ fn character(byte: u8) -> u8 {
 
 // The first n bytes, or all where there are no more.
 fn first(bytes: &[u8], n: usize) -> &[u8]
-    ensures { λ r. ⌜ (length (now r) ≤ n) × (length (now r) ≤ length (now (bytes .entry))) ⌝ }
+    ensures { λ r. ⌜ length (now r) ≤ length (now (bytes .entry)) ⌝ }
 {
     if n < bytes.len() { &bytes[0..n] } else { bytes }
 }

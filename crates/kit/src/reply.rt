@@ -6,8 +6,6 @@ use crate::fields::Number;
 use crate::fields::field;
 use crate::fields::read_number;
 use crate::fields::rest_of;
-use crate::help::help;
-use crate::help::why;
 use crate::streams::Said;
 use crate::streams::Streams;
 use crate::streams::call;
@@ -37,12 +35,6 @@ pub fn reply(streams: Streams, line: &[u8], written: &mut [u8]) -> Said
     }
     if same(field(line, 0), b"lend") {
         return reply_lent(streams, line, written);
-    }
-    if same(field(line, 0), b"help") {
-        return with_answer(streams, help(line));
-    }
-    if same(field(line, 0), b"why") {
-        return with_answer(streams, why(line));
     }
     let k = row_of(line);
     let end = writes(verb_at(k));
@@ -103,14 +95,12 @@ fn fill(written: &mut [u8], byte: u8)
     }
 }
 
-// An answer that leaves the streams.
-fn with_answer(streams: Streams, answer: Answer) -> Said {
-    Said { answer, streams }
-}
-
 // The answer to a line that asks for nothing.
 fn unknown(streams: Streams) -> Said {
-    with_answer(streams, Answer::unknown())
+    Said {
+        answer: Answer::new(*b"?       "),
+        streams,
+    }
 }
 
 // The number among a line's arguments; 0 where the verb takes none.
