@@ -189,8 +189,8 @@ proving and building the program kit: some minutes the first time; each crate is
 # A second run says that another one is running, and goes on when it is done.
 waits_for_another() {
     run_with "$few:$fake/bin" "$copy/kit" # so that nothing is left to prove
-    flock "$copy" sleep 2 &
-    sleep 1
+    flock "$copy" sleep 4 &
+    while flock -n "$copy" true; do sleep 0.1; done
     run_with "$few:$fake/bin" "$copy/kit"
     wait $!
     ended 0 '' "another run is proving or testing in this folder; this one goes on when that one is done"
