@@ -56,12 +56,15 @@ exec sh "$3"
 EOF
 }
 
-# Debian's tools: no package is installed, two of the simulated ones would upgrade another, and what is asked for is noted.
+# Debian's tools: no package but one is installed, one would upgrade another, and what is asked for is noted and, where something is done, said.
 make_debian() {
     for tool in apt-get dpkg; do
         stand_in "bin/$tool" <<EOF
 echo "$tool \$*" >>"$fake/asked"
-case "\$*" in -s*old*) echo 'Inst new (1 Debian)' && echo 'Inst libc6 [1] (2 Debian)' ;; esac
+case "\$*" in
+-q*) echo "$tool does \$*" ;;
+-s*old*) echo 'Inst new (1 Debian)' && echo 'Inst libc6 [1] (2 Debian)' ;;
+esac
 EOF
     done
     stand_in bin/dpkg-query <<'EOF'
@@ -99,13 +102,17 @@ everything_in() { find "$1" | sort; } # FOLDER
 
 # ---- what they say of themselves
 
+# On its output, with a line for each word of usage that has one.
 says_how() {
     for script in kit sheet desk test; do
         for option in --help -h; do
             run_with "$few" "$copy/$script" "$option"
-            ended 0 "$(cat "$room/out")" '' || return 1
-            case $(head -n 1 "$room/out") in "usage: ./$script ["*) ;; *) return 1 ;; esac
+            [ "$status" -eq 0 ] && [ ! -s "$room/err" ] && [ "$(wc -l <"$room/out")" -ge 4 ] || return 1
+            case $(head -n 1 "$room/out") in "usage: ./$script ["*'--help | --version]') ;; *) return 1 ;; esac
         done
+    done
+    for part in kit sheet desk reference scripts; do
+        grep -q "^usage: .*[[ ]$part " "$room/out" && grep -q "^    $part  " "$room/out" || return 1
     done
 }
 
@@ -219,7 +226,10 @@ installs_nothing_twice() { install_as 0 x86_64 need_packages 'to see' present pr
 
 # Said before, and no more than that.
 installs_what_is_missing() {
-    install_as 0 x86_64 need_packages 'to see' present missing another && ended 0 '' 'installing packages of Debian, to see: missing another' &&
+    install_as 0 x86_64 need_packages 'to see' present missing another
+    ended 0 '' 'installing packages of Debian, to see: missing another
+apt-get does -q update
+apt-get does -q install -y --no-install-recommends --no-upgrade --no-remove missing another' &&
         asked 'apt-get -q update
 apt-get -s install -y --no-install-recommends --no-upgrade --no-remove missing another
 apt-get -q install -y --no-install-recommends --no-upgrade --no-remove missing another'
@@ -228,6 +238,7 @@ apt-get -q install -y --no-install-recommends --no-upgrade --no-remove missing a
 upgrades_nothing() {
     install_as 0 x86_64 need_packages 'to see' old
     ended 1 '' 'installing packages of Debian, to see: old
+apt-get does -q update
 not installed, since this would upgrade: libc6
 to allow it: apt-get install -y --no-install-recommends old' && ! grep -q 'apt-get -q install' "$fake/asked"
 }

@@ -4,7 +4,6 @@ use borrow.Author.Needs.{needs}
 use Rattle.text.specs.laws.Plain.{marked, unmarked, too-short}
 use Rattle.text.proofs.read.without_mark.Statement.{statement}
 use Rattle.text.proofs.read.without_mark.Tie as tie
-use Rattle.text.proofs.read.same.Reads as same-reads
 
 returns : tie.Need-returns
 returns c = too-short (c .before .before .args .text .now) (c .if1 .taken)
