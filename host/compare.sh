@@ -90,6 +90,7 @@ compare_kit() {
         compare kit answer make-stream "$seed" 600
         compare kit answer make-lend "$seed" 4000
         compare kit answer make-help "$seed" 4000
+        compare kit answer make-totals "$seed" 4000
         compare kit answer make-windows "$seed" 4000
     done
     compare_small_texts

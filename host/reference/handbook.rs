@@ -73,7 +73,7 @@ mod tests {
     fn the_words_stand_in_their_order() {
         let words = words().join(" ");
         let expected = "speech control sacch access sch speech? control? sacch? access? sch? \
-            send end take fresh lend trellis help why";
+            send end take totals fresh lend trellis help why";
         assert_eq!(words, expected);
     }
 

@@ -4,7 +4,7 @@
 use crate::handbook;
 use crate::model::burst::FOUR_BURSTS;
 use crate::model::channel::{self, Received, NO_IDENTITY};
-use crate::model::receiving_stream::{Receiver, Taken, LENT_TO_TAKE};
+use crate::model::receiving_stream::{Receiver, Taken, Totals, LENT_TO_TAKE};
 use crate::model::refusal::Refusal;
 use crate::model::sending_stream::Sender;
 use crate::model::trellis::{self, View};
@@ -64,6 +64,12 @@ fn taken(answer: Result<Taken, Refusal>) -> Told {
         }
         Taken::Bad { n, refusal } => Told::refused(refusal, Some(n)),
     })
+}
+
+/// The four totals, parted by single spaces.
+fn totalled(totals: Totals) -> Told {
+    let numbers = [totals.speech, totals.facch, totals.refused, totals.counts];
+    Told::words(numbers.map(|number| number.to_string()).join(" "))
 }
 
 /// The answer of a channel's two verbs: its name sends a block, with a question mark behind it a
@@ -143,6 +149,7 @@ impl Kit {
             // Without an argument it is the view of nothing.
             [b"trellis"] => Some(viewed(trellis::view(&[]))),
             [b"trellis", c] => Some(viewed(trellis::view(&bits(c)))),
+            [b"totals"] => Some(totalled(self.receiver.totals())),
             [b"fresh"] => {
                 *self = Kit::fresh();
                 Some(Told::words("fresh".to_string()))
@@ -653,17 +660,22 @@ mod tests {
         }
     }
 
+    /// The bursts of blocks sent and ended.
+    fn bursts_of(blocks: &[&str]) -> Vec<String> {
+        let send = |block: &&str| full(&format!("send {}", block)).into_bytes();
+        let mut lines: Vec<Vec<u8>> = blocks.iter().map(send).collect();
+        lines.push(b"end".to_vec());
+        let sent = answers(&lines).concat();
+        let burst = |start| sent[start..start + 116].to_string();
+        (0..sent.len()).step_by(116).map(burst).collect()
+    }
+
     /// The answers of a kit that takes one block, sent and ended, with lent buffers of sevens.
     fn taken_to_sevens(block: &str) -> Vec<String> {
-        let mut kit = Kit::fresh();
-        let mut sent = kit.answer(full(&format!("send {}", block)).as_bytes());
-        sent += &kit.answer(b"end");
-        let bursts = (0..8).map(|number| (number, &sent[116 * number..116 * number + 116]));
-        let take = |(number, e)| format!("lend 260 7 take {} {}", number, e);
-        bursts
-            .map(take)
-            .map(|line| kit.answer(line.as_bytes()))
-            .collect()
+        let bursts = bursts_of(&[block]);
+        let take = |(number, e)| format!("lend 260 7 take {} {}", number, e).into_bytes();
+        let lines: Vec<Vec<u8>> = bursts.iter().enumerate().map(take).collect();
+        answers(&lines)
     }
 
     #[test]
@@ -732,7 +744,7 @@ mod tests {
     fn verbs() -> Vec<String> {
         let channels = CHANNELS.map(|channel| channel.name.to_string());
         let asked = CHANNELS.map(|channel| format!("{}?", channel.name));
-        let of_streams = ["send", "end", "take", "fresh"].map(String::from);
+        let of_streams = ["send", "end", "take", "totals", "fresh"].map(String::from);
         let others = ["lend", "trellis", "help", "why"].map(String::from);
         [&channels[..], &asked, &of_streams, &others].concat()
     }
@@ -822,6 +834,181 @@ mod tests {
             "end",
         ]);
         let kept = [0, 2, 4, 7, 9].map(|k| between[k].clone());
+        assert_eq!(kept[..], alone[..]);
+    }
+
+    #[test]
+    fn fresh_streams_have_totals_of_0() {
+        answered(&[("totals", "0 0 0 0")]);
+        let answers = answers_to(&["send {1*260}", "totals", "end", "totals"]);
+        assert_eq!((&answers[1][..], &answers[3][..]), ("0 0 0 0", "0 0 0 0"));
+    }
+
+    /// Turns over some bits, each the one at an index of a burst. By the first row of Table 1, e(0)
+    /// of bursts 4n to 4n+3 is c(0), c(57), c(114), c(171) of block n, and e(1) of bursts 4n+4 to
+    /// 4n+7 is c(228), c(285), c(342), c(399).
+    fn turn_over(bursts: &mut [String], bits: &[(usize, usize)]) {
+        for &(burst, index) in bits {
+            let other = match &bursts[burst][index..=index] {
+                "0" => "1",
+                _ => "0",
+            };
+            bursts[burst].replace_range(index..=index, other);
+        }
+    }
+
+    /// What a kit answers to `totals` after each burst taken in order.
+    fn totals_after_each(bursts: &[String]) -> Vec<String> {
+        let mut kit = Kit::fresh();
+        let mut after_each = Vec::new();
+        for (number, e) in bursts.iter().enumerate() {
+            kit.answer(full(&format!("take {} {}", number, e)).as_bytes());
+            after_each.push(kit.answer(b"totals"));
+        }
+        after_each
+    }
+
+    /// The totals after each of twelve bursts: those from block 0 on, and those with block 1.
+    fn twelve_totals(first: &str, second: &str) -> Vec<String> {
+        let totals = [&["0 0 0 0"; 7][..], &[first; 4], &[second]].concat();
+        totals.into_iter().map(String::from).collect()
+    }
+
+    #[test]
+    fn totals_tell_the_kinds_apart_and_sum_the_counts() {
+        let mut bursts = bursts_of(&["{0110*65}", "{1101*46}"]);
+        let totals = totals_after_each(&bursts);
+        assert_eq!(totals, twelve_totals("1 0 0 0", "1 1 0 0"));
+        // Three protected bits of the speech block, and c(399), which is unprotected there.
+        turn_over(&mut bursts, &[(0, 0), (1, 0), (2, 0), (7, 1)]);
+        // c(0) and c(399) of the FACCH block.
+        turn_over(&mut bursts, &[(4, 0), (11, 1)]);
+        let totals = totals_after_each(&bursts);
+        assert_eq!(totals, twelve_totals("1 0 0 3", "1 1 0 5"));
+    }
+
+    #[test]
+    fn blocks_refused_with_8_are_in_the_totals_without_their_counts() {
+        let mut bursts = vec![full("{0*116}"); 12];
+        turn_over(&mut bursts, &[(0, 0), (1, 0), (4, 0)]);
+        let take = |(number, e)| format!("take {} {}", number, e).into_bytes();
+        let lines: Vec<Vec<u8>> = bursts.iter().enumerate().map(take).collect();
+        let expected = two_answers("refused 8 0 2", "refused 8 1 1");
+        assert_eq!(answers(&lines), expected);
+        let totals = totals_after_each(&bursts);
+        assert_eq!(totals, twelve_totals("0 0 1 0", "0 0 2 0"));
+    }
+
+    #[test]
+    fn blocks_refused_with_9_are_in_the_totals() {
+        let bursts = vec!["{0*57}01{0*57}".to_string(); 12];
+        let totals = totals_after_each(&bursts);
+        assert_eq!(totals, twelve_totals("0 0 1 0", "0 0 2 0"));
+    }
+
+    #[test]
+    fn a_bad_block_leaves_the_totals_of_the_good_ones() {
+        let mut bursts = bursts_of(&["{01*130}", "{1*184}", "{0*260}"]);
+        // c(0) of the first and of the last block; four flags of the one between them.
+        turn_over(&mut bursts, &[(0, 0), (8, 0)]);
+        turn_over(&mut bursts, &[(4, 58), (5, 58), (6, 58), (7, 58)]);
+        let totals = totals_after_each(&bursts);
+        let expected = twelve_totals("1 0 0 1", "1 0 1 1");
+        assert_eq!(totals[..12], expected[..]);
+        assert_eq!(totals[12..], ["1 0 1 1", "1 0 1 1", "1 0 1 1", "2 0 1 2"]);
+    }
+
+    /// Takes a FACCH block of which one bit is altered.
+    fn take_facch(kit: &mut Kit) {
+        let mut bursts = bursts_of(&["{1101*46}"]);
+        turn_over(&mut bursts, &[(0, 0)]);
+        for (number, e) in bursts.iter().enumerate() {
+            kit.answer(format!("take {} {}", number, e).as_bytes());
+        }
+    }
+
+    #[test]
+    fn other_calls_leave_the_totals() {
+        let mut kit = Kit::fresh();
+        take_facch(&mut kit);
+        assert_eq!(kit.answer(b"totals"), "0 1 0 1");
+        for (line, expected) in [
+            ("take 8 {0*115}", "refused 1"),
+            ("take 8 {2*116}", "refused 2"),
+            ("take 7 {0*116}", "refused 4"),
+            ("take 9 {0*116}", "refused 4"),
+            ("take 65536 {0*116}", "?"),
+            ("lend 3 7 take 8 {0*116}", "refused 1 777"),
+            ("lend 260 7 take 7 {0*116}", "refused 4 {7*260}"),
+            ("send 2", "refused 1"),
+            ("end", "refused 6"),
+            // Blocks that come in no stream.
+            ("speech? {0*456}", "refused 8 0"),
+            ("access? 63 {0*35}1", "1 00000000"),
+            ("lend 8 7 access? 63 {0*35}1", "1 00000000"),
+            ("fresh ", "?"),
+            ("totals ", "?"),
+            ("lend 260 7 totals", "?"),
+            ("totals", "0 1 0 1"),
+            // A burst that is waited with.
+            ("take 8 {0*116}", "waiting"),
+        ] {
+            assert_eq!(kit.answer(full(line).as_bytes()), full(expected));
+            assert_eq!(kit.answer(b"totals"), "0 1 0 1", "{}", line);
+        }
+    }
+
+    #[test]
+    fn fresh_begins_the_totals_anew() {
+        let mut kit = Kit::fresh();
+        for _ in 0..2 {
+            take_facch(&mut kit);
+            assert_eq!(kit.answer(b"totals"), "0 1 0 1");
+            assert_eq!(kit.answer(b"fresh"), "fresh");
+            assert_eq!(kit.answer(b"totals"), "0 0 0 0");
+        }
+    }
+
+    #[test]
+    fn a_block_taken_to_a_lent_buffer_is_in_the_totals() {
+        let take = |number| full(&format!("lend 260 7 take {} {{0*116}}", number));
+        let mut lines: Vec<Vec<u8>> = (0..8).map(|n| take(n).into_bytes()).collect();
+        lines.push(b"totals".to_vec());
+        assert_eq!(answers(&lines)[8], "0 0 1 0");
+    }
+
+    #[test]
+    fn totals_has_no_argument() {
+        not_understood(&["totals ", "totals  ", " totals", "totals 0", "totals 00"]);
+        not_understood(&["totals\t", "totals\r", "totals\0", "totals?", "totals? "]);
+        not_understood(&["Totals", "TOTALS", "total", "totalss", "otals", "totals,"]);
+        not_understood(&["totals totals", "totals fresh", "fresh totals"]);
+    }
+
+    #[test]
+    fn totals_writes_nothing_that_is_lent() {
+        not_understood(&["lend 0 7 totals", "lend 4 7 totals", "lend 7 0 totals"]);
+        not_understood(&["lend 260 7 totals", "lend 464 7 totals", "lend 0 7 totals "]);
+    }
+
+    #[test]
+    fn totals_leaves_the_streams() {
+        let (send, first, second) = ("send {1*260}", "take 0 {0*116}", "take 1 {0*116}");
+        let alone = answers_to(&[send, first, send, second, "end"]);
+        let between = answers_to(&[
+            "totals",
+            send,
+            "totals",
+            first,
+            "totals",
+            "totals",
+            send,
+            "lend 260 7 totals",
+            second,
+            "totals",
+            "end",
+        ]);
+        let kept = [1, 3, 6, 8, 10].map(|k| between[k].clone());
         assert_eq!(kept[..], alone[..]);
     }
 

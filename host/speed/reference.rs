@@ -53,19 +53,30 @@ fn send(calls: usize, length: usize) -> bool {
     repeat(calls, || sender.send(&d, 464)).is_ok()
 }
 
-/// Whether so many of a block's eight bursts are taken: the eighth brings the block.
-fn take(calls: usize, length: usize) -> bool {
+/// Whether so many of a block's eight bursts are taken: the eighth brings the block. The totals are
+/// read after each where they are charted.
+fn take(calls: usize, length: usize, charted: bool) -> bool {
     let block = bits(length);
     let bursts = sent_and_ended(from_ref(&block));
     let mut receiver = Receiver::fresh();
     let mut numbered = (0..).zip(&bursts);
-    let mut take = |(number, e): (u16, &Vec<u8>)| receiver.take(number, e, 260);
+    let mut drawn = 0;
+    let mut take = |(number, e): (u16, &Vec<u8>)| {
+        let taken = receiver.take(number, e, 260);
+        if charted {
+            let totals = receiver.totals();
+            drawn += totals.speech + totals.facch + totals.refused + totals.counts;
+        }
+        taken
+    };
     let next = || numbered.next().map(&mut take);
-    match repeat(calls, next) {
+    let good = match repeat(calls, next) {
         Some(Ok(Taken::Waiting)) => calls < 8,
         Some(Ok(Taken::Good { d, .. })) => d == block,
         _ => false,
-    }
+    };
+    // Only the eighth burst adds to the totals.
+    good && drawn <= 1
 }
 
 /// Whether there is an entry of this name, and its calls go well.
@@ -76,8 +87,9 @@ fn run(name: &str, calls: usize) -> bool {
         (_, "decode", Some(channel)) => decode(channel, calls),
         ("send", "speech", _) => send(calls, 260),
         ("send", "facch", _) => send(calls, 184),
-        ("take", "speech", _) => take(calls, 260),
-        ("take", "facch", _) => take(calls, 184),
+        ("take", "speech", _) => take(calls, 260, false),
+        ("take", "facch", _) => take(calls, 184, false),
+        ("take", "charted", _) => take(calls, 260, true),
         _ => false,
     }
 }

@@ -28,6 +28,11 @@ numberOf Flags = 9
 abbrev pub returned : Maybe → Maybe → Returned
 returned number count = record { number = number; count = count }
 
+-- a number that is returned, 0 for none
+abbrev pub orNone : Maybe → ℕ
+orNone None = 0
+orNone (Some n) = n
+
 -- a call that is done gives no number
 abbrev pub ofTold : Told → Returned
 ofTold told.Done = returned None None

@@ -13,3 +13,4 @@ pub mod SpeechRestored
 pub mod Hearings
 pub mod Promises
 pub mod Says
+pub mod Counts

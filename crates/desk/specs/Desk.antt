@@ -1,14 +1,7 @@
 -- What C is given: the answers of coder's entries, each in one number.
-use Rattle.answers.specs.declared.Maybe.{Maybe}
-use Rattle.answers.specs.declared.Maybe.the-variants.{None, Some}
 use Prim.Native.Nat.{ℕ, _+_, _*_}
-use Rattle.answers.specs.Answers.{Answer}
+use Rattle.answers.specs.Answers.{Answer, orNone}
 use Rattle.answers.specs.declared.Returned.{Returned}
-
--- 0 where nothing is given
-abbrev pub orNone : Maybe → ℕ
-orNone None = 0
-orNone (Some n) = n
 
 -- 01's number in the upper half of 32 bits, the count in the lower
 unfoldable pub oneNumber : Returned → ℕ

@@ -5,10 +5,10 @@ use answers::Returned;
 use answers::of_heard;
 use answers::of_told;
 ghost use mathlib.Core.Path.{_≡_};
-ghost use Rattle.answers.specs.Answers.{Meets, ofTold, ofHeard};
+ghost use Rattle.answers.specs.Answers.{Meets, orNone, ofTold, ofHeard};
 ghost use Rattle.coder.specs.Entries.{accessSent, controlSent};
 ghost use Rattle.coder.specs.Received.{accessReceived, controlReceived};
-ghost use Rattle.desk.specs.Desk.{orNone, oneNumber, inOneNumber};
+ghost use Rattle.desk.specs.Desk.{oneNumber, inOneNumber};
 
 // A number that is given, or 0.
 fn or_none(given: Maybe) -> u16

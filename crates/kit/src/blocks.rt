@@ -1,7 +1,7 @@
 // Blocks, in each direction: the entry of each channel.
-use crate::verbs::Channel;
 use answers::Heard;
 use answers::Told;
+use words::Channel;
 
 // Codes the bits d for a channel; the number is the identity that an access burst is for.
 pub fn send(channel: Channel, number: u16, d: &[u8], coded: &mut [u8]) -> Told {

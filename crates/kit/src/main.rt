@@ -1,18 +1,8 @@
 // The kit by hand: each line of the input is a word and its arguments, and is answered by one line.
-mod answer;
 mod blocks;
-mod fields;
-mod help;
-mod pages;
-mod print;
 mod reply;
 mod streams;
-mod verbs;
 
-use help::Question;
-use help::put_said;
-use help::question_of;
-use print::put_answer;
 use reply::reply;
 use streams::Streams;
 use streams::fresh_streams;
@@ -21,6 +11,10 @@ use text::take_line;
 use text::without_mark;
 use text::without_return;
 use text::write_line;
+use words::Question;
+use words::put_answer;
+use words::put_said;
+use words::question_of;
 
 fn main() {
     let mut chunk = [0u8; 4096];

@@ -1,10 +1,10 @@
 // What the lines ask of the streams, which go from line to line.
-use crate::answer::Answer;
-use crate::verbs::Call;
 use burst::BurstNumber;
 use stream::receiver::Receiver;
 use stream::sender::Sender;
 use stream::sender::Sent;
+use words::Answer;
+use words::Call;
 
 // The two streams that the lines speak of.
 pub struct Streams {
@@ -36,6 +36,7 @@ pub fn call(streams: Streams, asked: Call, number: u16, read: &[u8], written: &m
             answer: Answer::new(*b"fresh   "),
             streams: fresh_streams(),
         },
+        Call::Totals => totals(streams),
     }
 }
 
@@ -72,7 +73,16 @@ fn take(streams: Streams, number: u16, e: &[u8], d: &mut [u8]) -> Said {
     let taken = received.told;
     let receiver = received.next;
     Said {
-        answer: Answer::of_values(stream::of_taken(taken)),
+        answer: Answer::of_values(chart::of_taken(taken)),
         streams: Streams { sender, receiver },
+    }
+}
+
+// totals
+fn totals(streams: Streams) -> Said {
+    let receiver = streams.receiver;
+    Said {
+        answer: Answer::of_totals(receiver.totals()),
+        streams,
     }
 }

@@ -1,3 +1,4 @@
 pub mod Promise
+pub mod Totals
 pub mod Examples
 pub mod laws

@@ -11,14 +11,14 @@ use Rattle.bits.specs.Bits.{Bits, pick, tab, value, total}
 use Rattle.burst.specs.Numbers.{firstBurst}
 use Rattle.places.specs.Places.{eAt, placeAt, hl, hu}
 use Rattle.trellis.specs.Nearest.{disagreements}
-use Rattle.stream.specs.Answers.{values, ofTaken}
+use Rattle.chart.specs.Answers.{values, ofTaken}
 use Rattle.stream.specs.Receiving.{vote, byKind, freshReceiver, takeAnswer}
 use Rattle.stream.specs.Says.{BlockSays}
 use Rattle.stream.specs.Sending.{isFacch, isBlock, freshSender, sendAnswer, endAnswer}
-use Rattle.stream.specs.declared.Taken.{Taken}
-use Rattle.stream.specs.declared.Taken.the-variants.{Waiting}
-use Rattle.stream.specs.declared.Kind.{Kind}
-use Rattle.stream.specs.declared.Kind.the-variants as kind
+use Rattle.chart.specs.declared.Taken.{Taken}
+use Rattle.chart.specs.declared.Taken.the-variants.{Waiting}
+use Rattle.chart.specs.declared.Kind.{Kind}
+use Rattle.chart.specs.declared.Kind.the-variants as kind
 use Rattle.stream.specs.declared.receiver.Received.{Received}
 use Rattle.stream.specs.declared.receiver.Receiver.{Receiver}
 use Rattle.stream.specs.declared.sender.Sender.{Sender}

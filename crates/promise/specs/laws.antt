@@ -1,3 +1,4 @@
 pub mod Sent
 pub mod Taken
 pub mod Promise
+pub mod Totals

@@ -45,6 +45,9 @@ fn call(name: &[u8], calls: u8) -> u32 {
     if same(name, b"take-facch") {
         return streams::take_facch(calls);
     }
+    if same(name, b"take-charted") {
+        return streams::take_charted(calls);
+    }
     call_block(name, calls)
 }
 

@@ -4,7 +4,8 @@ use crate::blocks::of_told;
 use crate::blocks::seen;
 use answers::Refusal;
 use burst::BurstNumber;
-use stream::Taken;
+use chart::Taken;
+use chart::Totals;
 use stream::receiver::Receiver;
 use stream::sender::Sender;
 ghost use mathlib.Core.Path.{_≡_};
@@ -51,20 +52,27 @@ fn send(calls: u8, d: &[u8]) -> u32 {
 pub fn take_speech(calls: u8) -> u32 {
     let mut d = [0u8; 260];
     fill(&mut d);
-    take(calls, &d)
+    take(calls, &d, false)
 }
 
 pub fn take_facch(calls: u8) -> u32 {
     let mut d = [0u8; 184];
     fill(&mut d);
-    take(calls, &d)
+    take(calls, &d, false)
+}
+
+// As speech, and after each burst the chart reads the totals.
+pub fn take_charted(calls: u8) -> u32 {
+    let mut d = [0u8; 260];
+    fill(&mut d);
+    take(calls, &d, true)
 }
 
 // The bursts of a block that is sent and ended, taken in order.
-fn take(calls: u8, d: &[u8]) -> u32 {
+fn take(calls: u8, d: &[u8], charted: bool) -> u32 {
     let mut e = [0u8; 928];
     make(d, &mut e);
-    take_all(calls, &e)
+    take_all(calls, &e, charted)
 }
 
 // A block that is sent and ended.
@@ -77,12 +85,13 @@ fn make(d: &[u8], e: &mut [u8])
     open.end(&mut e[464..928]);
 }
 
-fn take_all(calls: u8, e: &[u8]) -> u32
+fn take_all(calls: u8, e: &[u8], charted: bool) -> u32
     requires { ⌜ length (now e) ≡ 928 ⌝ }
 {
     let mut d = [0u8; 260];
     let mut receiver = Receiver::fresh();
     let mut told = 0;
+    let mut drawn = [0u32; 8];
     for b in 0..calls {
         if b > 7 {
             return seen(told, &d);
@@ -94,6 +103,18 @@ fn take_all(calls: u8, e: &[u8]) -> u32
         told = of_taken(said);
         let next = received.next;
         receiver = next;
+        if charted {
+            drawn[b as usize] = in_one(receiver.totals());
+        }
+    }
+    // the totals are looked at, so that no take can leave them out
+    if drawn[0] ^ in_one(receiver.totals()) > 65534 {
+        return 65535;
     }
     seen(told, &d)
+}
+
+// The four numbers in one.
+fn in_one(totals: Totals) -> u32 {
+    totals.speech ^ totals.facch ^ totals.refused ^ totals.counts
 }

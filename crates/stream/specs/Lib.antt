@@ -1,4 +1,3 @@
-pub mod Answers
 pub mod Sending
 pub mod Receiving
 pub mod Says

@@ -10,6 +10,7 @@ use Rattle.answers.specs.Answers.{Answer}
 use Rattle.answers.specs.declared.Refusal.the-variants.{Length, NotBits, Full, OutOfTurn}
 use Rattle.answers.specs.declared.Told.{Told}
 use Rattle.answers.specs.declared.Told.the-variants as told
+use Rattle.chart.specs.Totals.{four, counted}
 use Rattle.burst.specs.Held.{heldBlock, heldFlags}
 use Rattle.burst.specs.Numbers.{ended}
 use Rattle.burst.specs.Ring.{kept}
@@ -17,16 +18,16 @@ use Rattle.burst.specs.declared.numbers.Ending.{Ending}
 use Rattle.burst.specs.declared.numbers.Ending.the-variants.{Block, Nothing}
 use Rattle.parity.specs.Division.{controlG}
 use Rattle.coder.specs.Received.{Hearing, blockHeard, speechHeard}
-use Rattle.stream.specs.declared.Taken.{Taken}
-use Rattle.stream.specs.declared.Taken.the-variants as taken
+use Rattle.chart.specs.declared.Taken.{Taken}
+use Rattle.chart.specs.declared.Taken.the-variants as taken
 use Rattle.stream.specs.declared.receiver.Received.{Received}
 use Rattle.stream.specs.declared.receiver.Receiver.{Receiver}
-use Rattle.stream.specs.declared.Kind.{Kind}
-use Rattle.stream.specs.declared.Kind.the-variants as kind
+use Rattle.chart.specs.declared.Kind.{Kind}
+use Rattle.chart.specs.declared.Kind.the-variants as kind
 
 -- nothing is taken
 unfoldable pub freshReceiver : Receiver
-freshReceiver = record { next = record { 0 = 0 }; held = zeros 928 }
+freshReceiver = record { next = record { 0 = 0 }; held = zeros 928; totals = four 0 0 0 0 }
 
 -- 01: where several apply, 1, 2, 5, 4; the stream is full when burst 65,535 is taken
 unfoldable pub takeJudged : Bool → Bool → Bool → Bool → Told
@@ -72,14 +73,14 @@ atEnding Nothing held d = record { result = taken.Waiting; left = d }
 unfoldable pub burstAnswer : List ℕ → ℕ → List ℕ → Answer Taken
 burstAnswer held b d = atEnding (ended b) held d
 
--- the burst is taken: it is held, and the next number is one higher
-unfoldable pub takenNext : Receiver → List ℕ → Receiver
-takenNext s e = record { next = record { 0 = s .next .0 + 1 }; held = kept (s .held) (s .next .0) e }
+-- the burst is taken: it is held, the next number is one higher, and the totals have one answer more (02, M-100)
+unfoldable pub takenNext : Receiver → List ℕ → Taken → Receiver
+takenNext s e t = record { next = record { 0 = s .next .0 + 1 }; held = kept (s .held) (s .next .0) e; totals = counted (s .totals) t }
 
 unfoldable pub afterTaking : Told → Receiver → List ℕ → List ℕ → Answer Received
 afterTaking told.Done s e d =
     let a : Answer Taken = burstAnswer (kept (s .held) (s .next .0) e) (s .next .0) d in
-    record { result = record { told = a .result; next = takenNext s e }; left = a .left }
+    record { result = record { told = a .result; next = takenNext s e (a .result) }; left = a .left }
 afterTaking (told.Refused r) s e d = record { result = record { told = taken.Refused r; next = s }; left = d }
 
 unfoldable pub takeAnswer : Receiver → ℕ → List ℕ → List ℕ → Answer Received

@@ -13,11 +13,15 @@ use Rattle.answers.specs.declared.Maybe.the-variants.{None, Some}
 use Rattle.burst.specs.Held.{heldFlagAt, heldBlock}
 use Rattle.burst.specs.Ring.{kept}
 use Rattle.coder.specs.Says.{BlockDecodes, SpeechDecodes}
-use Rattle.stream.specs.Answers.{values, ofTaken}
+use Rattle.chart.specs.Answers.{values, ofTaken}
 use Rattle.stream.specs.Receiving.{freshReceiver, takenNext, takeAnswer}
 use Rattle.stream.specs.Sending.{freshSender, isBlock, sentBursts, sentNext, sendAnswer, endBursts, endNext, endAnswer}
-use Rattle.stream.specs.declared.Kind.the-variants.{Speech, Facch, Neither}
-use Rattle.stream.specs.declared.Values.{Values}
+use Rattle.chart.specs.Says.{said}
+use Rattle.chart.specs.Totals.{four, more}
+use Rattle.chart.specs.declared.Taken.{Taken}
+use Rattle.chart.specs.declared.Taken.the-variants.{Waiting}
+use Rattle.chart.specs.declared.Kind.the-variants.{Speech, Facch, Neither}
+use Rattle.chart.specs.declared.Values.{Values}
 use Rattle.stream.specs.declared.receiver.Received.{Received}
 use Rattle.stream.specs.declared.receiver.Receiver.{Receiver}
 use Rattle.stream.specs.declared.sender.Sender.{Sender}
@@ -32,6 +36,7 @@ pub record FreshSays : Type 0 where
   pub sent : freshSender .sent .0 ≡ 0
   pub unended : freshSender .ended ≡ false
   pub next : freshReceiver .next .0 ≡ 0
+  pub totals : freshReceiver .totals ≡ four 0 0 0 0
 
 -- no refusal applies to a send: 260 or 184 bits, 464 bytes, not ended, and room
 pub record Sendable (s : Sender) (d e : List ℕ) : Type 0 where
@@ -91,14 +96,15 @@ abbrev pub refuses : ℕ → Values
 refuses number = values (Some number) Neither None None
 
 -- where several apply: 1, 2, 5, 4. Otherwise, and only then, the burst is taken; 4n+7 brings block n, of the bursts that are then held, and every
--- other none
+-- other none. 02, M-100: the next stream's totals are those before and what the answer's values say, of every answer
 pub record TakeSays (s : Receiver) (b : ℕ) (e d : List ℕ) : Type 0 where
   pub one : ((length e ≡ 116) × (length d ≡ 260) → ⊥) → TakeReturns (takeAnswer s b e d) (refuses 1) d s
   pub two : length e ≡ 116 → length d ≡ 260 → (Bits e → ⊥) → TakeReturns (takeAnswer s b e d) (refuses 2) d s
   pub five : length e ≡ 116 → length d ≡ 260 → Bits e → 65536 ≤ s .next .0 → TakeReturns (takeAnswer s b e d) (refuses 5) d s
   pub four : length e ≡ 116 → length d ≡ 260 → Bits e → s .next .0 < 65536 → (b ≡ s .next .0 → ⊥) → TakeReturns (takeAnswer s b e d) (refuses 4) d s
-  pub waiting : Takeable s b e d → ((n : ℕ) → b ≡ 4 * n + 7 → ⊥) → TakeReturns (takeAnswer s b e d) (values None Neither None None) d (takenNext s e)
+  pub waiting : Takeable s b e d → ((n : ℕ) → b ≡ 4 * n + 7 → ⊥) → TakeReturns (takeAnswer s b e d) (values None Neither None None) d (takenNext s e Waiting)
   pub block : Takeable s b e d → (n : ℕ) → b ≡ 4 * n + 7
-      → BlockSays (λ v left. TakeReturns (takeAnswer s b e d) v left (takenNext s e)) (total 8 (heldFlagAt (kept (s .held) b e) n)) n (heldBlock (kept (s .held) b e) n) d
-  pub counts : takenNext s e .next .0 ≡ s .next .0 + 1
+      → BlockSays (λ v left. TakeReturns (takeAnswer s b e d) v left (takenNext s e (takeAnswer s b e d .result .told))) (total 8 (heldFlagAt (kept (s .held) b e) n)) n (heldBlock (kept (s .held) b e) n) d
+  pub counts : (t : Taken) → takenNext s e t .next .0 ≡ s .next .0 + 1
+  pub totals : (t : Taken) → takenNext s e t .totals ≡ more (s .totals) (said (ofTaken t))
   pub only : takeAnswer s b e d .result .next .next .0 ≡ s .next .0 + 1 → Takeable s b e d

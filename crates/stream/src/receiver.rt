@@ -1,12 +1,13 @@
 // The receiver: it takes bursts one by one and holds the last eight; burst 4n+7 brings the answer for block n (01, Bursts and streams).
-use crate::Kind;
-use crate::Taken;
 use answers::Heard;
 use answers::Refusal;
 use answers::Told;
 use burst::BlockNumber;
 use burst::BurstNumber;
 use burst::Ending;
+use chart::Kind;
+use chart::Taken;
+use chart::Totals;
 ghost use mathlib.Core.Path.{_≡_};
 ghost use Prim.Native.Nat.{_<_};
 ghost use lib.Dec.{eqb, leb};
@@ -16,12 +17,13 @@ ghost use Rattle.bits.specs.Bits.{allBits, both};
 ghost use Rattle.burst.specs.Held.{heldBlock};
 ghost use Rattle.stream.specs.Receiving.{freshReceiver, takeJudged, vote, byKind, blockAnswer, burstAnswer, takeAnswer};
 ghost use Rattle.stream.specs.laws.Receiving.{asTaken};
-ghost use Rattle.stream.specs.declared.Kind.the-variants.{Speech, Facch};
+ghost use Rattle.chart.specs.declared.Kind.the-variants.{Speech, Facch};
 
-// The number of the next burst, and the last eight bursts: burst B stands at 116 (B mod 8).
+// The number of the next burst; the last eight bursts, of which burst B stands at 116 (B mod 8); and the chart's totals (02, M-100).
 pub struct Receiver {
     next: BurstNumber,
     held: [u8; 928],
+    totals: Totals,
 }
 
 // What is said of a take, and the next stream.
@@ -134,6 +136,12 @@ impl Receiver {
         Self {
             next: BurstNumber(0),
             held: [0; 928],
+            totals: Totals {
+                speech: 0,
+                facch: 0,
+                refused: 0,
+                counts: 0,
+            },
         }
     }
 
@@ -152,10 +160,20 @@ impl Receiver {
                 burst::hold(b, e, &mut held);
                 let told = answer(b, &held, d);
                 let next = burst::next_burst(b);
+                let before = self.totals;
+                let totals = chart::counted(before, told);
                 self.next = next;
                 self.held = held;
+                self.totals = totals;
                 Received { told, next: self }
             }
         }
+    }
+
+    // The chart's totals: what all answers of this stream add up to.
+    pub fn totals(self) -> Totals
+        ensures { λ r. ⌜ r ≡ self .totals ⌝ }
+    {
+        self.totals
     }
 }

@@ -1,5 +1,5 @@
-//! A full stream as kit lines: 16,383 blocks sent, its end, its 65,536 bursts taken, and what is
-//! refused at each edge.
+//! A full stream as kit lines: 16,383 blocks sent, its end, its 65,536 bursts taken, what is refused
+//! at each edge, and the totals before and behind it all.
 
 use crate::chance::cable;
 use crate::chance::random::Random;
@@ -12,12 +12,16 @@ pub fn lines(random: &mut Random) -> Vec<Vec<u8>> {
     let blocks: Vec<Vec<u8>> = (0..MOST_BLOCKS).map(|_| block(random, 16)).collect();
     let mut bursts = sent_bursts(&blocks);
     cable::light(random, &mut bursts);
-    let mut lines = vec![b"fresh".to_vec()];
+    let totals = b"totals".to_vec();
+    let mut lines = vec![b"fresh".to_vec(), totals.clone()];
     lines.extend(blocks.iter().map(|d| send(d)));
     lines.extend(around_the_end(random));
+    lines.push(totals.clone());
     let numbered = bursts.iter().enumerate();
     lines.extend(numbered.map(|(number, e)| take_bits(number, e)));
+    lines.push(totals.clone());
     lines.extend(after_the_last(&bursts));
+    lines.push(totals);
     lines
 }
 
@@ -63,10 +67,11 @@ mod tests {
         let lines = lines(&mut Random::new(90));
         let mut kit = Kit::fresh();
         assert_eq!(kit.answer(&lines[0]), "fresh");
-        for line in &lines[1..=16_383] {
+        assert_eq!(kit.answer(&lines[1]), "0 0 0 0");
+        for line in &lines[2..=16_384] {
             assert_eq!(kit.answer(line).len(), 464);
         }
-        let answers: Vec<String> = lines[16_384..16_397]
+        let answers: Vec<String> = lines[16_385..16_398]
             .iter()
             .map(|line| kit.answer(line))
             .collect();
@@ -80,9 +85,10 @@ mod tests {
         assert_eq!(answers[8], sevens("refused 7", 464));
         assert_eq!(answers[9], "refused 7");
         assert_eq!(answers[10..], ["refused 1", "refused 2", "refused 2"]);
+        assert_eq!(kit.answer(&lines[16_398]), "0 0 0 0");
         // The takes follow; of these only the first blocks are decoded here.
-        assert!(lines[16_397].starts_with(b"take 0 "));
-        for line in &lines[16_397..16_397 + 400] {
+        assert!(lines[16_399].starts_with(b"take 0 "));
+        for line in &lines[16_399..16_399 + 400] {
             assert!(!kit.answer(line).starts_with("refused 4"));
         }
     }
@@ -90,12 +96,22 @@ mod tests {
     #[test]
     fn the_full_stream_is_taken_to_burst_65535() {
         let lines = lines(&mut Random::new(91));
-        assert_eq!(lines.len(), 1 + 16_383 + 13 + 65_536 + 5);
+        assert_eq!(lines.len(), 2 + 16_383 + 13 + 1 + 65_536 + 1 + 5 + 1);
         for number in [0, 1, 9_999, 65_535] {
             let start = format!("take {} ", number);
-            assert!(lines[16_397 + number].starts_with(start.as_bytes()));
+            assert!(lines[16_399 + number].starts_with(start.as_bytes()));
         }
-        let last = &lines[16_397 + 65_536..];
-        assert!(last[0].starts_with(b"take 65535 ") && last[1].starts_with(b"take 0 "));
+        let last = &lines[16_399 + 65_536..];
+        assert!(last[1].starts_with(b"take 65535 ") && last[2].starts_with(b"take 0 "));
+    }
+
+    #[test]
+    fn the_totals_are_asked_for_at_each_edge() {
+        let lines = lines(&mut Random::new(160));
+        let asked: Vec<usize> = (0..lines.len())
+            .filter(|&k| lines[k] == b"totals")
+            .collect();
+        assert_eq!(asked, [1, 16_398, 81_935, 81_941]);
+        assert_eq!(lines.len(), 81_942);
     }
 }

@@ -77,13 +77,13 @@ fn digit(random: &mut Random) -> Vec<u8> {
 }
 
 /// The line with a buffer of so many bytes.
-fn lent(random: &mut Random, length: usize, line: &[u8]) -> Vec<u8> {
+pub fn lent(random: &mut Random, length: usize, line: &[u8]) -> Vec<u8> {
     let length = fields::number_of(random, length);
     lend(&length, &digit(random), line)
 }
 
 /// The line with a buffer of the right length, or without one; always so if it writes nothing.
-fn with_or_without(random: &mut Random, line: Vec<u8>) -> Vec<u8> {
+pub fn with_or_without(random: &mut Random, line: Vec<u8>) -> Vec<u8> {
     match writes(&line) {
         Some(right) if !random.one_in(3) => lent(random, right, &line),
         _ => line,

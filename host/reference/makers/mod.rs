@@ -13,6 +13,7 @@ mod sent_lines;
 mod sheet_lines;
 #[cfg(test)]
 mod sorts;
+mod totals_lines;
 mod view_lines;
 mod windows_lines;
 
@@ -31,7 +32,7 @@ pub struct Maker {
 }
 
 /// All makers.
-pub static MAKERS: [Maker; 10] = [
+pub static MAKERS: [Maker; 11] = [
     Maker {
         mode: "make-lines",
         numbers: "SEED COUNT",
@@ -73,6 +74,12 @@ pub static MAKERS: [Maker; 10] = [
         numbers: "SEED COUNT",
         with_returns: false,
         lines: help_lines::lines,
+    },
+    Maker {
+        mode: "make-totals",
+        numbers: "SEED COUNT",
+        with_returns: false,
+        lines: totals_lines::lines,
     },
     Maker {
         mode: "make-windows",

@@ -1,4 +1,5 @@
-//! The receiving stream: holds every burst taken, and picks each bit of a block by the formula.
+//! The receiving stream: holds every burst taken, and picks each bit of a block by the formula. It
+//! holds every answer given besides, and goes through them all when it is asked for the totals.
 
 use crate::model::burst::{Interleaving, BURST};
 use crate::model::channel::NO_IDENTITY;
@@ -26,10 +27,47 @@ pub enum Taken {
     Bad { n: usize, refusal: Refusal },
 }
 
+/// What is kept of an answer: all that the totals ask for, and no bits.
+#[derive(Clone, Copy)]
+enum Kept {
+    /// No block is complete.
+    Waiting,
+    /// A good block: its kind and the count.
+    Good(Kind, usize),
+    /// The number of any refusal, whether its burst is taken or not.
+    Refused(u8),
+}
+
+impl Kept {
+    /// What is kept of this answer.
+    fn of(answer: &Result<Taken, Refusal>) -> Kept {
+        match answer {
+            Ok(Taken::Waiting) => Kept::Waiting,
+            Ok(Taken::Good { kind, count, .. }) => Kept::Good(*kind, *count),
+            Ok(Taken::Bad { refusal, .. }) | Err(refusal) => Kept::Refused(refusal.number()),
+        }
+    }
+}
+
+/// The totals, over all answers since the fresh stream.
+#[derive(Debug, PartialEq)]
+pub struct Totals {
+    /// The number of good speech blocks.
+    pub speech: usize,
+    /// The number of good FACCH blocks.
+    pub facch: usize,
+    /// The number of blocks refused with 8 or 9.
+    pub refused: usize,
+    /// The sum of the counts of the good blocks.
+    pub counts: usize,
+}
+
 /// A receiving stream.
 pub struct Receiver {
     /// Bursts 0, 1, 2 and so on, as they were taken.
     bursts: Vec<Vec<u8>>,
+    /// Every answer, in the order in which they were given.
+    answers: Vec<Kept>,
 }
 
 /// Burst 4n+7 brings the answer for block n, every other burst none.
@@ -41,14 +79,45 @@ fn answered(burst: usize) -> Option<usize> {
 }
 
 impl Receiver {
-    /// No burst taken yet.
+    /// No burst taken yet, and no answer given.
     pub fn fresh() -> Receiver {
-        Receiver { bursts: Vec::new() }
+        Receiver {
+            bursts: Vec::new(),
+            answers: Vec::new(),
+        }
     }
 
     /// Takes the next burst; what it brings is written to so many lent bytes. Refusals that leave
     /// the stream come in the order 1, 2, 5, 4.
     pub fn take(&mut self, number: u16, e: &[u8], lent: usize) -> Result<Taken, Refusal> {
+        let answer = self.taken(number, e, lent);
+        self.answers.push(Kept::of(&answer));
+        answer
+    }
+
+    /// The totals, taken over all answers anew.
+    pub fn totals(&self) -> Totals {
+        let (speech, facch) = (self.counts(Kind::Speech), self.counts(Kind::Facch));
+        let is_bad = |answer: &&Kept| matches!(answer, Kept::Refused(8 | 9));
+        Totals {
+            speech: speech.len(),
+            facch: facch.len(),
+            refused: self.answers.iter().filter(is_bad).count(),
+            counts: speech.iter().chain(&facch).sum(),
+        }
+    }
+
+    /// The counts of all good blocks of a kind.
+    fn counts(&self, kind: Kind) -> Vec<usize> {
+        let count = |answer: &Kept| match *answer {
+            Kept::Good(other, count) if other == kind => Some(count),
+            _ => None,
+        };
+        self.answers.iter().filter_map(count).collect()
+    }
+
+    /// The answer to a take, which is not yet among those given.
+    fn taken(&mut self, number: u16, e: &[u8], lent: usize) -> Result<Taken, Refusal> {
         check(e, e.len() == BURST && lent == LENT_TO_TAKE)?;
         if self.bursts.len() == MOST_BURSTS {
             return Err(Refusal::StreamFull);
@@ -83,7 +152,7 @@ impl Receiver {
 #[cfg(test)]
 mod tests {
     use super::*;
-    use crate::chance::cable::change_block;
+    use crate::chance::cable::{self, change_block};
     use crate::chance::lists::{alter, random_bits};
     use crate::chance::random::Random;
     use crate::model::bits::inverted;
@@ -132,6 +201,27 @@ mod tests {
             n,
             refusal: BadParity { count },
         }
+    }
+
+    /// These four totals.
+    fn totals(speech: usize, facch: usize, refused: usize, counts: usize) -> Totals {
+        Totals {
+            speech,
+            facch,
+            refused,
+            counts,
+        }
+    }
+
+    /// The totals of a fresh receiver after each burst given in order.
+    fn totals_after_each(bursts: &[Vec<u8>]) -> Vec<Totals> {
+        let mut receiver = Receiver::fresh();
+        let mut after_each = Vec::new();
+        for (number, e) in bursts.iter().enumerate() {
+            receiver.take(number as u16, e, 260).unwrap();
+            after_each.push(receiver.totals());
+        }
+        after_each
     }
 
     /// Alters so many of the flags of block n.
@@ -291,12 +381,14 @@ mod tests {
             assert_eq!(receiver.take(number, e, 260), Err(OutOfTurn));
         }
         assert_eq!(taken, given(&bursts));
+        assert_eq!(receiver.totals(), totals(2, 2, 0, 0));
     }
 
     #[test]
     fn burst_65535_is_the_last() {
         let mut receiver = Receiver {
             bursts: vec![vec![0; BURST]; 65_535],
+            ..Receiver::fresh()
         };
         assert_eq!(receiver.take(0, &[0; 116], 260), Err(OutOfTurn));
         assert_eq!(
@@ -309,5 +401,75 @@ mod tests {
             assert_eq!(receiver.take(number, &[2; 116], 260), Err(NotABit));
             assert_eq!(receiver.take(number, &[0; 116], 260), Err(StreamFull));
         }
+        assert_eq!(receiver.totals(), totals(0, 0, 1, 0));
+    }
+
+    #[test]
+    fn a_fresh_stream_has_no_totals_and_seven_bursts_bring_none() {
+        assert_eq!(Receiver::fresh().totals(), totals(0, 0, 0, 0));
+        let bursts = sent_and_ended(&blocks(100, "s"));
+        for after in &totals_after_each(&bursts)[..7] {
+            assert_eq!(*after, totals(0, 0, 0, 0));
+        }
+    }
+
+    #[test]
+    fn good_blocks_are_totalled_by_kind_and_their_counts_summed() {
+        let mut random = Random::new(101);
+        let mut bursts = sent_and_ended(&blocks(101, "sfssf"));
+        for (n, altered) in [1, 2, 0, 3, 3].into_iter().enumerate() {
+            change_block(&mut bursts, n, |c, _| {
+                alter(&mut random, &mut c[..378], altered)
+            });
+        }
+        let after_each = totals_after_each(&bursts);
+        let expected = [
+            totals(1, 0, 0, 1),
+            totals(1, 1, 0, 3),
+            totals(2, 1, 0, 3),
+            totals(3, 1, 0, 6),
+            totals(3, 2, 0, 9),
+        ];
+        for burst in 7..24 {
+            let n = (burst - 7) / 4;
+            assert_eq!(after_each[burst], expected[n], "burst {}", burst);
+        }
+    }
+
+    #[test]
+    fn a_bad_block_is_refused_and_its_count_not_summed() {
+        let mut bursts = vec![vec![0; BURST]; 12];
+        // c(0) and c(57) of block 0, by the first row of Table 1.
+        bursts[0][0] = 1;
+        bursts[1][0] = 1;
+        Diagonal(1).put_flags(&mut bursts, &[0, 0, 0, 0, 1, 1, 1, 1]);
+        assert_eq!(answers(&bursts), [bad_parity(0, 2), four_flags(1)]);
+        let after_each = totals_after_each(&bursts);
+        assert_eq!(after_each[7], totals(0, 0, 1, 0));
+        assert_eq!(after_each[11], totals(0, 0, 2, 0));
+    }
+
+    #[test]
+    fn the_totals_are_what_the_answers_add_up_to() {
+        let mut random = Random::new(102);
+        let mut bursts = sent_and_ended(&blocks(102, &"ssf".repeat(30)));
+        cable::lesson(&mut random, &mut bursts);
+        let mut sum = totals(0, 0, 0, 0);
+        for (taken, after) in given(&bursts).iter().zip(totals_after_each(&bursts)) {
+            match taken {
+                Taken::Waiting => {}
+                Taken::Good { kind, count, .. } => {
+                    sum.counts += count;
+                    match kind {
+                        Kind::Speech => sum.speech += 1,
+                        Kind::Facch => sum.facch += 1,
+                    }
+                }
+                Taken::Bad { .. } => sum.refused += 1,
+            }
+            assert_eq!(after, sum);
+        }
+        assert_eq!(sum.speech + sum.facch + sum.refused, 90);
+        assert!(sum.speech > 10 && sum.facch > 5 && sum.refused > 10 && sum.counts > 10);
     }
 }

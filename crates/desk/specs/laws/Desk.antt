@@ -9,7 +9,7 @@ use lib.ListN.{length}
 use Rattle.bits.specs.Bits.{allBits}
 use Rattle.parity.specs.Division.{accessG, controlG}
 use Rattle.trellis.specs.laws.Nearest.{count-fits}
-use Rattle.answers.specs.Answers.{Answer, Meets, ofTold, ofHeard, hears}
+use Rattle.answers.specs.Answers.{Answer, Meets, orNone, ofTold, ofHeard, hears}
 use Rattle.answers.specs.declared.Heard.{Heard}
 use Rattle.answers.specs.declared.Heard.the-variants.{Good, Bad}
 use Rattle.answers.specs.declared.Heard.the-variants as heard
@@ -22,7 +22,7 @@ use Rattle.answers.specs.declared.Told.the-variants as told
 use Rattle.answers.specs.laws.Answers.{Settled, meets-once}
 use Rattle.coder.specs.Entries.{judged, lengths, accessSent, controlSent}
 use Rattle.coder.specs.Received.{accessReceived, controlReceived, Hearing, blockHeard, verdict, judgedHearing, reception}
-use Rattle.desk.specs.Desk.{orNone, oneNumber, inOneNumber}
+use Rattle.desk.specs.Desk.{oneNumber, inOneNumber}
 
 module _ (identity : ℕ) (d c : List ℕ) where
   pub access-settled : Settled (inOneNumber ofTold (accessSent identity d c))

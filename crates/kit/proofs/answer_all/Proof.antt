@@ -12,6 +12,11 @@ Inv-loop chunk₀ line₀ rest₀ streams₀ first₀ turns₀ chunk line rest s
 abbrev μ-loop : tie.MeasureT-loop
 μ-loop chunk₀ line₀ rest₀ streams₀ first₀ turns₀ chunk line rest streams first turns = turns
 
+loop-again : tie.Need-loop-again Inv-loop μ-loop
+loop-again c =
+    let taken = c .before .before .before .before .before .before .before .before .before .before .before .before in
+    search (needs, taken .take-line, taken .before .before .before)
+
 pub answer-all-spec : {M : Type 1} → statement M
 answer-all-spec =
     tie.close
@@ -30,7 +35,7 @@ answer-all-spec =
     (λ c. search needs)
     (λ c. search needs)
     (λ c. search needs)
-    (λ c. search needs)
+    loop-again
     (λ c. search needs)
     (λ c. search needs)
     (λ c. search needs))

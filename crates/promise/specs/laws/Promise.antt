@@ -23,14 +23,14 @@ use Rattle.coder.specs.Received.{Hearing}
 use Rattle.coder.specs.laws.Blocks.{control-size, speech-size}
 use Rattle.coder.specs.laws.Hearings.{control-hearing, speech-hearing}
 use Rattle.trellis.specs.Nearest.{differ, disagreements}
-use Rattle.stream.specs.Answers.{ofTaken}
+use Rattle.chart.specs.Answers.{ofTaken}
 use Rattle.stream.specs.Receiving.{vote, byKind, speechOf, facchOf, goodOrBad}
 use Rattle.stream.specs.laws.Says.{block-says}
 use Rattle.stream.specs.Sending.{isFacch, isBlock, blockOf, flagOf, freshSender}
-use Rattle.stream.specs.declared.Taken.{Taken}
-use Rattle.stream.specs.declared.Taken.the-variants.{Speech, Facch}
-use Rattle.stream.specs.declared.Kind.{Kind}
-use Rattle.stream.specs.declared.Kind.the-variants as kind
+use Rattle.chart.specs.declared.Taken.{Taken}
+use Rattle.chart.specs.declared.Taken.the-variants.{Speech, Facch}
+use Rattle.chart.specs.declared.Kind.{Kind}
+use Rattle.chart.specs.declared.Kind.the-variants as kind
 use Rattle.stream.specs.declared.receiver.Received.{Received}
 use Rattle.promise.specs.Promise.{Valid, Lesson, made, blockBits, blockFlags, protected, bitsAltered, flagsAltered, kindOf, bitsOut, takenAt, Brings, Answers, answerFor, StreamPromise, BurstsMade, IdleHalves, Locality, StreamNearest, NeverAThird}
 use Rattle.promise.specs.laws.Sent.{fresh-able, sent-bit, sent-flag, all-done, first-idle, last-idle}

@@ -23,8 +23,8 @@ use Rattle.places.specs.laws.Places.{every-bit}
 use Rattle.burst.specs.laws.Ring.{kept-long, kept-same, kept-other}
 use Rattle.burst.specs.declared.numbers.Ending.{Ending}
 use Rattle.stream.specs.Receiving.{vote, byKind, blockAnswer, atEnding, burstAnswer, freshReceiver, takenNext, takeAnswer}
-use Rattle.stream.specs.declared.Taken.{Taken}
-use Rattle.stream.specs.declared.Taken.the-variants.{Waiting}
+use Rattle.chart.specs.declared.Taken.{Taken}
+use Rattle.chart.specs.declared.Taken.the-variants.{Waiting}
 use Rattle.stream.specs.declared.receiver.Received.{Received}
 use Rattle.stream.specs.declared.receiver.Receiver.{Receiver}
 use Rattle.stream.specs.laws.Receiving.{takes-on}
@@ -58,7 +58,7 @@ module _ (M : ℕ) (few : M ≤ 65536) (rx : List ℕ) (out : ℕ → List ℕ) 
   module _ (s : Receiver) (b : ℕ) (h : b < M) (l : Along s b) where
     taken : takeAnswer s b (burstOf rx b) (out b)
         ≡ record {
-          result = record { told = burstAnswer (kept (s .held) b (burstOf rx b)) b (out b) .result; next = takenNext s (burstOf rx b) };
+          result = record { told = burstAnswer (kept (s .held) b (burstOf rx b)) b (out b) .result; next = takenNext s (burstOf rx b) (burstAnswer (kept (s .held) b (burstOf rx b)) b (out b) .result) };
           left = burstAnswer (kept (s .held) b (burstOf rx b)) b (out b) .left;
         }
     taken = takes-on s b (burstOf rx b) (out b) (record { reads = burst-long b h; writes = here .lent b; bits = burst-bits b; room = omega (arith, few, l .next); turn = sym (l .next) })

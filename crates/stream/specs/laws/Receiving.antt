@@ -28,12 +28,12 @@ use Rattle.coder.specs.laws.Heard.{hears-good, hears-bad}
 use Rattle.parity.specs.Division.{controlG}
 use Rattle.stream.specs.Says.{Takeable}
 use Rattle.stream.specs.Receiving.{takeJudged, takeTold, vote, goodOrBad, speechOf, facchOf, byKind, blockAnswer, atEnding, burstAnswer, takenNext, afterTaking, takeAnswer}
-use Rattle.stream.specs.declared.Taken.{Taken}
-use Rattle.stream.specs.declared.Taken.the-variants as taken
+use Rattle.chart.specs.declared.Taken.{Taken}
+use Rattle.chart.specs.declared.Taken.the-variants as taken
 use Rattle.stream.specs.declared.receiver.Received.{Received}
 use Rattle.stream.specs.declared.receiver.Receiver.{Receiver}
-use Rattle.stream.specs.declared.Kind.{Kind}
-use Rattle.stream.specs.declared.Kind.the-variants.{Speech, Facch}
+use Rattle.chart.specs.declared.Kind.{Kind}
+use Rattle.chart.specs.declared.Kind.the-variants.{Speech, Facch}
 
 -- ---- the block that is gathered
 pub held-bits : (held : List ℕ) (n : ℕ) → Bits (heldBlock held n)
@@ -153,10 +153,10 @@ take-able s b e d r h f =
 
 -- ---- the two ways in which a take ends
 module _ (t : Told) (s : Receiver) (e d : List ℕ) (r : Told) (h : r ≡ t) where
-  pub done-taking : (said : Taken) (after : List ℕ) (n : Receiver) → r ≡ told.Done → Meets (burstAnswer (kept (s .held) (s .next .0) e) (s .next .0) d) said after → n ≡ takenNext s e
+  pub done-taking : (said : Taken) (after : List ℕ) (n : Receiver) → r ≡ told.Done → Meets (burstAnswer (kept (s .held) (s .next .0) e) (s .next .0) d) said after → n ≡ takenNext s e said
       → Meets (afterTaking t s e d) (record { told = said; next = n }) after
   unfolding afterTaking
-  done-taking said after n f m en = rw (← h, f) (record { result = ap₂ (λ (x : Taken) (y : Receiver). record { told = x; next = y }) (m .result) en; left = m .left })
+  done-taking said after n f m en = rw (← h, f) (record { result = ap (λ (y : Receiver). record { told = said; next = y }) en ∙ ap (λ (x : Taken). record { told = x; next = takenNext s e x }) (m .result); left = m .left })
 
   pub refused-taking : (x : Refusal) → r ≡ told.Refused x → Meets (afterTaking t s e d) (record { told = taken.Refused x; next = s }) d
   unfolding afterTaking
@@ -164,7 +164,7 @@ module _ (t : Told) (s : Receiver) (e d : List ℕ) (r : Told) (h : r ≡ t) whe
 
 -- ---- a burst in turn is taken
 pub takes-on : (s : Receiver) (b : ℕ) (e d : List ℕ) → Takeable s b e d
-    → takeAnswer s b e d ≡ record { result = record { told = burstAnswer (kept (s .held) b e) b d .result; next = takenNext s e }; left = burstAnswer (kept (s .held) b e) b d .left }
+    → takeAnswer s b e d ≡ record { result = record { told = burstAnswer (kept (s .held) b e) b d .result; next = takenNext s e (burstAnswer (kept (s .held) b e) b d .result) }; left = burstAnswer (kept (s .held) b e) b d .left }
 unfolding takeAnswer takeTold takeJudged afterTaking
 takes-on s b e d a =
     rw (a .turn, eq-eqb (length e) 116 (a .reads), eq-eqb (length d) 260 (a .writes), bits-all e (a .bits), lt-leb 65536 (s .next .0) (a .room), eq-eqb (s .next .0) (s .next .0) refl) refl

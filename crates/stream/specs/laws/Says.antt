@@ -29,17 +29,19 @@ use Rattle.coder.specs.Received.{Hearing, blockHeard, speechHeard}
 use Rattle.coder.specs.Says.{blockWord, speechD, speechWord}
 use Rattle.coder.specs.laws.Blocks.{control-long}
 use Rattle.coder.specs.laws.Says.{told-done, block-heard, speech-heard, decodes}
-use Rattle.stream.specs.Answers.{values, ofTaken}
+use Rattle.chart.specs.Totals.{more, counted}
+use Rattle.chart.specs.laws.Totals.{adds-says}
+use Rattle.chart.specs.Answers.{values, ofTaken}
 use Rattle.stream.specs.Receiving.{freshReceiver, takeJudged, takeTold, vote, goodOrBad, speechOf, facchOf, byKind, blockAnswer, atEnding, burstAnswer, takenNext, afterTaking, takeAnswer}
 use Rattle.stream.specs.Says.{SentReturns, FreshSays, Sendable, SendSays, Endable, EndSays, BlockSays, TakeReturns, Takeable, refuses, TakeSays}
 use Rattle.stream.specs.Sending.{freshSender, isBlock, sendJudged, sendTold, sentBursts, sentNext, sendAnswer, endJudged, endTold, endBursts, endNext, endAnswer, afterwards}
 use Rattle.stream.specs.laws.Receiving.{take-able, takes-on}
 use Rattle.stream.specs.laws.Sending.{send-able, sends-on, end-able, ends-on}
-use Rattle.stream.specs.declared.Kind.{Kind}
-use Rattle.stream.specs.declared.Kind.the-variants as kind
-use Rattle.stream.specs.declared.Taken.{Taken}
-use Rattle.stream.specs.declared.Taken.the-variants as taken
-use Rattle.stream.specs.declared.Values.{Values}
+use Rattle.chart.specs.declared.Kind.{Kind}
+use Rattle.chart.specs.declared.Kind.the-variants as kind
+use Rattle.chart.specs.declared.Taken.{Taken}
+use Rattle.chart.specs.declared.Taken.the-variants as taken
+use Rattle.chart.specs.declared.Values.{Values}
 use Rattle.stream.specs.declared.receiver.Received.{Received}
 use Rattle.stream.specs.declared.receiver.Receiver.{Receiver}
 use Rattle.stream.specs.declared.sender.Sender.{Sender}
@@ -57,7 +59,7 @@ returns-so a t left next e = (ap (λ (x : Answer Sent). ofTold (x .result .told)
 
 pub fresh-says : FreshSays
 unfolding freshSender freshReceiver
-fresh-says = record { sent = refl; unended = refl; next = refl }
+fresh-says = record { sent = refl; unended = refl; next = refl; totals = refl }
 
 module _ (s : Sender) (d e : List ℕ) where
   send-refused : (x : Refusal) → sendTold s d e ≡ Refused x → SentReturns (sendAnswer s d e) (Some (numberOf x)) e s
@@ -157,9 +159,17 @@ module _ (s : Receiver) (b : ℕ) (e d : List ℕ) where
 
   -- a burst that is taken, by what it brings
   brings : Takeable s b e d → (t : Taken) (left : List ℕ) → burstAnswer held b d ≡ record { result = t; left = left }
-      → TakeReturns (takeAnswer s b e d) (ofTaken t) left (takenNext s e)
+      → TakeReturns (takeAnswer s b e d) (ofTaken t) left (takenNext s e t)
   brings a t left f =
-      take-so t left (takenNext s e) (takes-on s b e d a ∙ ap (λ (x : Answer Taken). record { result = record { told = x .result; next = takenNext s e }; left = x .left }) f)
+      take-so t left (takenNext s e t) (takes-on s b e d a ∙ ap (λ (x : Answer Taken). record { result = record { told = x .result; next = takenNext s e (x .result) }; left = x .left }) f)
+
+  -- the same, the next stream by what is told
+  brings-told : Takeable s b e d → (t : Taken) (left : List ℕ) → burstAnswer held b d ≡ record { result = t; left = left }
+      → TakeReturns (takeAnswer s b e d) (ofTaken t) left (takenNext s e (takeAnswer s b e d .result .told))
+  brings-told a t left f =
+      let so = brings a t left f in
+      let told : takeAnswer s b e d .result .told ≡ t = ap (λ (x : Answer Received). x .result .told) (takes-on s b e d a) ∙ ap (λ (x : Answer Taken). x .result) f in
+      (so .0, so .1, so .2 ∙ ap (takenNext s e) (sym told))
 
   waits : ((n : ℕ) → b ≡ 4 * n + 7 → ⊥) → burstAnswer held b d ≡ record { result = taken.Waiting; left = d }
   unfolding burstAnswer atEnding
@@ -179,7 +189,7 @@ module _ (s : Receiver) (b : ℕ) (e d : List ℕ) where
   next-only f = taken-only (takeTold s b e d) f
 
   pub take-says : TakeSays s b e d
-  unfolding takeTold takeJudged takenNext
+  unfolding takeTold takeJudged takenNext counted
   take-says =
       let lengths : Bool = both (eqb (length e) 116) (eqb (length d) 260) in
       record {
@@ -188,7 +198,8 @@ module _ (s : Receiver) (b : ℕ) (e d : List ℕ) where
         five = λ reads writes bits h. take-refused Full (rw (eq-eqb (length e) 116 reads, eq-eqb (length d) 260 writes, bits-all e bits, le-leb 65536 (s .next .0) h) refl);
         four = λ reads writes bits room h. take-refused OutOfTurn (rw (eq-eqb (length e) 116 reads, eq-eqb (length d) 260 writes, bits-all e bits, lt-leb 65536 (s .next .0) room, ne-eqb b (s .next .0) h) refl);
         waiting = λ a other. brings a taken.Waiting d (waits other);
-        block = λ a n is. block-says (heldFlags held n) n (heldBlock held n) d (λ v left. TakeReturns (takeAnswer s b e d) v left (takenNext s e)) (λ t left f. brings a t left (brought n is ∙ f)) (total 8 (heldFlagAt held n)) (held-ones held n);
-        counts = refl;
+        block = λ a n is. block-says (heldFlags held n) n (heldBlock held n) d (λ v left. TakeReturns (takeAnswer s b e d) v left (takenNext s e (takeAnswer s b e d .result .told))) (λ t left f. brings-told a t left (brought n is ∙ f)) (total 8 (heldFlagAt held n)) (held-ones held n);
+        counts = λ t. refl;
+        totals = λ t. ap (more (s .totals)) (adds-says t);
         only = λ f. take-able s b e d (takeTold s b e d) refl (next-only f);
       }

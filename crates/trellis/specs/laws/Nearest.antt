@@ -92,6 +92,13 @@ module _ (r : List ℕ) where
   back-to-zero : (n : ℕ) → n ≤ longest → Least 8 (pairCost r) n 0 (best 8 (pairCost r) 65535 n 0) (walk 8 (pairCost r) 65535 n 0)
   back-to-zero n l = ⊎-elim (λ w. w) (λ q. absurd (q .1 (zeros n) (bits-zeros n) (length-zeros n) (zero-path n))) (fact n l 0 (omega arith))
 
+  -- a count is at most two a pair
+  pub count-most : (n : ℕ) → n ≤ longest → nearestCount r n ≤ 2 * n
+  unfolding nearestCount rowAt
+  count-most n l =
+      let w = back-to-zero n l in
+      omega (arith, w .costs, w .long, path-le r (walk 8 (pairCost r) 65535 n 0))
+
   pub nearest-is : (n : ℕ) → 4 ≤ n → n ≤ longest → Nearest r n (nearest r n) (nearestCount r n)
   unfolding nearest nearestCount rowAt
   nearest-is n h l =

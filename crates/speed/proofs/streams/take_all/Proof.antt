@@ -7,10 +7,10 @@ use Rattle.speed.proofs.streams.take_all.Statement.{statement}
 use Rattle.speed.proofs.streams.take_all.Tie as tie
 
 abbrev Inv-loop : tie.InvT-loop
-Inv-loop calls e d₀ receiver₀ told₀ b₀ d receiver told b = (b ≤ calls) × (length d ≡ 260)
+Inv-loop calls e charted d₀ receiver₀ told₀ drawn₀ b₀ d receiver told drawn b = (b ≤ calls) × (length d ≡ 260)
 
 abbrev μ-loop : tie.MeasureT-loop
-μ-loop calls e d₀ receiver₀ told₀ b₀ d receiver told b = calls - b
+μ-loop calls e charted d₀ receiver₀ told₀ drawn₀ b₀ d receiver told drawn b = calls - b
 
 pub take-all-spec : {M : Type 1} → statement M
 take-all-spec =
@@ -33,8 +33,17 @@ take-all-spec =
     (λ c. search needs)
     (λ c κs. search needs)
     (λ c κs. search needs)
+    (λ c κs. search needs)
+    (λ c κs. search needs)
     (λ c. search needs)
     (λ c. search needs)
+    (λ c. search needs)
+    (λ c. search needs)
+    (λ c. search needs)
+    (λ c. search needs)
+    (λ c. search needs)
+    (λ c κs. search needs)
+    (λ c κs. search needs)
     (λ c. search needs)
     (λ c. search needs)
     (λ c κs. search needs)

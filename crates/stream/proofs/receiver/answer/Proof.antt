@@ -4,8 +4,8 @@ use Rattle.answers.specs.Answers.{Answer, Meets}
 use Rattle.burst.specs.declared.numbers.Ending.the-variants.{Block, Nothing}
 use Rattle.stream.specs.Receiving.{atEnding}
 use Rattle.stream.specs.laws.Receiving.{at-ending}
-use Rattle.stream.specs.declared.Taken.{Taken}
-use Rattle.stream.specs.declared.Taken.the-variants.{Waiting}
+use Rattle.chart.specs.declared.Taken.{Taken}
+use Rattle.chart.specs.declared.Taken.the-variants.{Waiting}
 use borrow.Author.Needs.{needs}
 use Rattle.stream.proofs.receiver.answer.Statement.{statement}
 use Rattle.stream.proofs.receiver.answer.Tie as tie

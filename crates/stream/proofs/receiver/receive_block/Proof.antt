@@ -3,9 +3,9 @@ use mathlib.Core.Path.{refl, ap, subst, _∙_}
 use Rattle.answers.specs.Answers.{Answer, Meets}
 use Rattle.stream.specs.Receiving.{vote, byKind}
 use Rattle.stream.specs.laws.Receiving.{by-kind}
-use Rattle.stream.specs.declared.Taken.{Taken}
-use Rattle.stream.specs.declared.Taken.the-variants.{Tie}
-use Rattle.stream.specs.declared.Kind.the-variants.{Speech, Facch, Neither}
+use Rattle.chart.specs.declared.Taken.{Taken}
+use Rattle.chart.specs.declared.Taken.the-variants.{Tie}
+use Rattle.chart.specs.declared.Kind.the-variants.{Speech, Facch, Neither}
 use borrow.Author.Needs.{needs}
 use Rattle.stream.proofs.receiver.receive_block.Statement.{statement}
 use Rattle.stream.proofs.receiver.receive_block.Tie as tie

@@ -8,7 +8,9 @@ use Rattle.answers.specs.Answers.{Answer, Meets}
 use Rattle.burst.specs.Ring.{kept}
 use Rattle.stream.specs.Receiving.{burstAnswer, takeTold, takenNext, takeAnswer}
 use Rattle.stream.specs.laws.Receiving.{take-able, done-taking, refused-taking}
-use Rattle.stream.specs.declared.Taken.{Taken}
+use Rattle.chart.specs.Totals.{counted}
+use Rattle.chart.specs.declared.Taken.{Taken}
+use Rattle.chart.specs.declared.totals.Totals.{Totals}
 use Rattle.stream.specs.declared.receiver.Receiver.{Receiver}
 use borrow.Author.Needs.{needs}
 use Rattle.stream.proofs.receiver.Receiver.take.Statement.{statement}
@@ -56,22 +58,25 @@ module _ (s : Receiver) (b : ℕ) (e d y : List ℕ) (turn : b ≡ s .next .0) (
   said-in-turn : burstAnswer y b d ≡ burstAnswer (kept (s .held) (s .next .0) e) (s .next .0) d
   said-in-turn = ap₂ (λ (x : List ℕ) (n : ℕ). burstAnswer x n d) in-turn turn
 
-  next-in-turn : (m : ℕ) → m ≡ b + 1 → _≡_ {A = Receiver} (record { next = record { 0 = m }; held = y }) (takenNext s e)
+  next-in-turn : (t : Taken) (m : ℕ) (z : Totals) → m ≡ b + 1 → z ≡ counted (s .totals) t
+      → _≡_ {A = Receiver} (record { next = record { 0 = m }; held = y; totals = z }) (takenNext s e t)
   unfolding takenNext
-  next-in-turn m em = ap₂ (λ (n : ℕ) (x : List ℕ). record { next = record { 0 = n }; held = x }) (em ∙ ap (λ (n : ℕ). n + 1) turn) in-turn
+  next-in-turn t m z em ez =
+      ap₂ (λ (n : ℕ) (x : List ℕ). record { next = record { 0 = n }; held = x; totals = z }) (em ∙ ap (λ (n : ℕ). n + 1) turn) in-turn
+      ∙ ap (λ (x : Totals). record { next = record { 0 = s .next .0 + 1 }; held = kept (s .held) (s .next .0) e; totals = x }) ez
 
 returns-2 : tie.Need-returns-2
 unfolding takeTold takeAnswer
 returns-2 c =
-    let s = c .before .before .before .before .before .before .before .before .before .before .before .before .before .before .before .args in
-    let j = c .before .before .before .before .before .before .before .before .before .before .before .before .judge-take in
-    let able = take-able (s .self) (s .b .0) (s .e .now) (s .d .now) (j .result) (j .ensures) (c .before .before .before .before .before .before .before .before .before .before .enum-told .given .1) in
-    let y = c .before .before .before .before .before .before .before .hold .last .1 .1 .0 in
-    let k = c .before .before .before .before .before .before .before .hold .ensures in
-    let said = c .before .before .before .answer in
-    done-taking (takeTold (s .self) (s .b .0) (s .e .now) (s .d .now)) (s .self) (s .e .now) (s .d .now) (j .result) (j .ensures) (said .result) (said .last .1 .1 .0) _ (c .before .before .before .before .before .before .before .before .before .before .enum-told .given .1)
+    let s = c .before .before .before .before .before .before .before .before .before .before .before .before .before .before .before .before .before .args in
+    let j = c .before .before .before .before .before .before .before .before .before .before .before .before .before .before .judge-take in
+    let able = take-able (s .self) (s .b .0) (s .e .now) (s .d .now) (j .result) (j .ensures) (c .before .before .before .before .before .before .before .before .before .before .before .before .enum-told .given .1) in
+    let y = c .before .before .before .before .before .before .before .before .before .hold .last .1 .1 .0 in
+    let k = c .before .before .before .before .before .before .before .before .before .hold .ensures in
+    let said = c .before .before .before .before .before .answer in
+    done-taking (takeTold (s .self) (s .b .0) (s .e .now) (s .d .now)) (s .self) (s .e .now) (s .d .now) (j .result) (j .ensures) (said .result) (said .last .1 .1 .0) _ (c .before .before .before .before .before .before .before .before .before .before .before .before .enum-told .given .1)
     (subst (λ (a : Answer Taken). Meets a (said .result) (said .last .1 .1 .0)) (said-in-turn (s .self) (s .b .0) (s .e .now) (s .d .now) y (able .turn) k) (said .ensures))
-    (next-in-turn (s .self) (s .b .0) (s .e .now) (s .d .now) y (able .turn) k (c .next-burst .result .0) (c .next-burst .ensures))
+    (next-in-turn (s .self) (s .b .0) (s .e .now) (s .d .now) y (able .turn) k (said .result) (c .before .before .next-burst .result .0) (c .counted .result) (c .before .before .next-burst .ensures) (c .counted .ensures))
 
 pub take-spec : {M : Type 1} → statement M
 take-spec =
@@ -85,6 +90,7 @@ take-spec =
     (λ c. search needs)
     answer-requires
     next-burst-requires
+    (λ c κs. search needs)
     returns
     (λ c. search needs)
     returns-2)
