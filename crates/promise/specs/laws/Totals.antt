@@ -2,13 +2,13 @@
 -- every fourth burst brings a block and there are 65,536 bursts.
 use mathlib.Core.Bool.{Bool, true, false}
 use mathlib.Core.List.{List, [], _∷_, _++_}
-use mathlib.Core.Path.{_≡_, refl, sym, ap, _∙_, subst}
-use Prim.Native.Nat.{ℕ, _+_, _-_, _*_, _/_, _%_, _≤_, _<_, min}
+use mathlib.Core.Path.{_≡_, refl, sym, ap, ap₂, _∙_, subst}
+use Prim.Native.Nat.{ℕ, _+_, _-_, _*_, _/_, _%_, _≤_}
 use native.Mathlib.Omega.{arith}
 use lib.Dec.{eqb, leb, lit≤}
 use lib.ListN.{drop}
 use borrow.Author.Tests.{eqb-true, eqb-false, leb-true, leb-false}
-use Rattle.answers.specs.Answers.{Answer, Meets}
+use Rattle.answers.specs.Answers.{Answer}
 use Rattle.answers.specs.Calls.{Happened}
 use Rattle.answers.specs.declared.Refusal.{Refusal}
 use Rattle.answers.specs.declared.Told.{Told}
@@ -24,7 +24,7 @@ use Rattle.coder.specs.Received.{Hearing, blockHeard, speechHeard}
 use Rattle.coder.specs.laws.Counts.{control-most, speech-most}
 use Rattle.chart.specs.Answers.{ofTaken}
 use Rattle.chart.specs.Says.{said, together, totalsOf}
-use Rattle.chart.specs.Totals.{four, adds, highest, more, counted}
+use Rattle.chart.specs.Totals.{four, adds, more, counted}
 use Rattle.chart.specs.laws.Totals.{adds-says}
 use Rattle.chart.specs.declared.Kind.{Kind}
 use Rattle.chart.specs.declared.Kind.the-variants as kind
@@ -37,7 +37,7 @@ use Rattle.stream.specs.Says.{Takeable}
 use Rattle.stream.specs.declared.receiver.Received.{Received}
 use Rattle.stream.specs.declared.receiver.Receiver.{Receiver}
 use Rattle.stream.specs.laws.Receiving.{take-able}
-use Rattle.promise.specs.Totals.{handedBack, answered, FarFromFull, TotalsPromise}
+use Rattle.promise.specs.Totals.{handedBack, answered, TotalsPromise}
 
 -- ---- what one answer adds: at most so many blocks, and the count of a good one, which is at most 456
 record Adds (most : ℕ) (m : Totals) : Type 0 where
@@ -90,43 +90,26 @@ of-burst held d b = by-tests (leb 7 b) (eqb (b % 4) 3) refl refl
     by-tests false e hl he = none (λ n z. omega (arith, z, leb-false 7 b hl))
 
 -- ---- sums of totals
+same : (s t : Totals) → s .speech ≡ t .speech → s .facch ≡ t .facch → s .refused ≡ t .refused → s .counts ≡ t .counts → s ≡ t
+same s t a b c d = ap₂ (λ (x y : ℕ). four x y (s .refused) (s .counts)) a b ∙ ap₂ (λ (x y : ℕ). four (t .speech) (t .facch) x y) c d
+
 none-after : (s : Totals) → together s (four 0 0 0 0) ≡ s
 unfolding together
-none-after s =
-    let a : s .speech + 0 ≡ s .speech = omega arith in
-    let b : s .facch + 0 ≡ s .facch = omega arith in
-    let c : s .refused + 0 ≡ s .refused = omega arith in
-    let d : s .counts + 0 ≡ s .counts = omega arith in
-    rw (a, b, c, d) refl
+none-after s = same (together s (four 0 0 0 0)) s (omega arith) (omega arith) (omega arith) (omega arith)
 
 none-before : (s : Totals) → together (four 0 0 0 0) s ≡ s
 unfolding together
-none-before s =
-    let a : 0 + s .speech ≡ s .speech = omega arith in
-    let b : 0 + s .facch ≡ s .facch = omega arith in
-    let c : 0 + s .refused ≡ s .refused = omega arith in
-    let d : 0 + s .counts ≡ s .counts = omega arith in
-    rw (a, b, c, d) refl
+none-before s = same (together (four 0 0 0 0) s) s (omega arith) (omega arith) (omega arith) (omega arith)
 
-module _ (s t m : Totals) where
-  one-after-another : together (together s t) m ≡ together s (together t m)
-  unfolding together
-  one-after-another =
-      let a : s .speech + t .speech + m .speech ≡ s .speech + (t .speech + m .speech) = omega arith in
-      let b : s .facch + t .facch + m .facch ≡ s .facch + (t .facch + m .facch) = omega arith in
-      let c : s .refused + t .refused + m .refused ≡ s .refused + (t .refused + m .refused) = omega arith in
-      let d : s .counts + t .counts + m .counts ≡ s .counts + (t .counts + m .counts) = omega arith in
-      rw (a, b, c, d) refl
+one-after-another : (s t m : Totals) → together (together s t) m ≡ together s (together t m)
+unfolding together
+one-after-another s t m = same (together (together s t) m) (together s (together t m)) (omega arith) (omega arith) (omega arith) (omega arith)
 
-  -- no number is full where there are few blocks
-  plain : s .speech + s .facch + s .refused + (m .speech + m .facch + m .refused) ≤ 16383 → s .counts + m .counts ≤ 7470648 → more s m ≡ together s m
-  unfolding more together
-  plain few least =
-      let a : min (s .speech + m .speech) highest ≡ s .speech + m .speech = omega (arith, few) in
-      let b : min (s .facch + m .facch) highest ≡ s .facch + m .facch = omega (arith, few) in
-      let c : min (s .refused + m .refused) highest ≡ s .refused + m .refused = omega (arith, few) in
-      let d : min (s .counts + m .counts) highest ≡ s .counts + m .counts = omega (arith, least) in
-      rw (a, b, c, d) refl
+-- no number is full where there are few blocks
+plain : (s m : Totals) → s .speech + s .facch + s .refused + (m .speech + m .facch + m .refused) ≤ 16383 → s .counts + m .counts ≤ 7470648
+    → more s m ≡ together s m
+unfolding more together
+plain s m few least = same (more s m) (together s m) (omega (arith, few)) (omega (arith, few)) (omega (arith, few)) (omega (arith, least))
 
 -- ---- the numbers of a stream that calls have made, n bursts being taken: at most so many blocks, and of each good one at most 456
 record Far (n : ℕ) (t : Totals) : Type 0 where
@@ -151,7 +134,7 @@ module _ (s : Receiver) (b : ℕ) (e d : List ℕ) (far : Far (s .next .0) (s .t
       let few : x .speech + x .facch + x .refused + (m .speech + m .facch + m .refused) ≤ before (n + 1) = omega (arith, far .blocks, a .blocks) in
       let least : x .counts + m .counts ≤ 456 * (x .speech + m .speech + (x .facch + m .facch)) = omega (arith, far .counts, a .counts) in
       let most : before (n + 1) ≤ 16383 = omega (arith, able .room) in
-      let sums : more x m ≡ together x m = plain x x m (omega (arith, few, most)) (omega (arith, few, least, most)) in
+      let sums : more x m ≡ together x m = plain x m (omega (arith, few, most)) (omega (arith, few, least, most)) in
       record {
         adds-up = sums ∙ ap (together x) (adds-says t);
         far = subst (Far (n + 1)) (sym sums) (record { within = omega (arith, able .room); blocks = omega (arith, few); counts = least });
