@@ -1,4 +1,4 @@
--- What an answer adds to the totals a second time, by what 01 returns of it: its number, its kind, its block and its count. Proved in laws/Totals.
+-- What an answer adds to the totals (02, M-100) a second time, by what 01 returns of it: its number, its kind, its block and its count. Proved in laws/Totals.
 use mathlib.Core.List.{List, [], _∷_}
 use Prim.Native.Nat.{ℕ, _+_}
 use lib.Dec.{eqb}
