@@ -78,7 +78,7 @@ compare_handbook() {
     else
         bad "the handbook's examples that are run, or lent buffers"
     fi
-    if flags_as_printed; then good "three altered flags are repaired, four give 9"; else bad "three or four altered flags"; fi
+    if flags_as_printed; then good "four altered flags are repaired, or give 9 where both parities are bad"; else bad "altered flags"; fi
 }
 
 compare_kit() {
@@ -91,6 +91,7 @@ compare_kit() {
         compare kit answer make-lend "$seed" 4000
         compare kit answer make-help "$seed" 4000
         compare kit answer make-totals "$seed" 4000
+        compare kit answer make-ties "$seed" 4000
         compare kit answer make-windows "$seed" 4000
     done
     compare_small_texts

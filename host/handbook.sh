@@ -1,5 +1,5 @@
-# 01's handbook examples that are run and not proved, and what its table of refusals says of a lent buffer, as kit lines:
-# LINE => ANSWER, the answers typed from the paper. Sourced, by POSIX sh.
+# 01's handbook examples that are run and not proved, that of the flags as 02 has it (M-101), and what the table of refusals says of a lent
+# buffer, as kit lines: LINE => ANSWER, the answers typed from the papers. Sourced, by POSIX sh.
 
 sevens() { zeros "$1" | tr 0 7; } # COUNT
 
@@ -36,12 +36,21 @@ lent_buffers() {
     say "lend 261 7 take 0 $(zeros 116) => refused 1 $(sevens 261)"
     say "lend 260 7 take 1 $(zeros 116) => refused 4 $(sevens 260)"
     say "lend 260 7 take 0 $(zeros 116) => waiting $(sevens 260)"
+    # a block of zeros with four flags that are 1
+    for burst in 1 2 3; do say "lend 260 7 take $burst $(zeros 58)1$(zeros 57) => waiting $(sevens 260)"; done
+    say "lend 260 7 take 4 $(zeros 57)1$(zeros 58) => waiting $(sevens 260)"
+    for burst in 5 6; do say "lend 260 7 take $burst $(zeros 116) => waiting $(sevens 260)"; done
+    say "lend 260 7 take 7 $(zeros 116) => refused 9 0 $(sevens 260)"
+    say "lend 260 7 take 8 $(zeros 116) => waiting $(sevens 260)"
     say "lend 600 7 fresh => ?"
 }
 
-# The eight bursts of a stream of one block of speech, all zeros, with the first COUNT of its flags altered, as lines that take them.
+# The bursts of a stream of one block, COUNT zeros.
+sent_zeros() { printf 'send %s\nend\n' "$(zeros "$1")" | run_proved kit; } # COUNT
+
+# The eight bursts of a block, one after another on standard input, with the first COUNT of its flags altered, as lines that take them.
 flagged() { # COUNT
-    printf 'send %s\nend\n' "$(zeros 260)" | run_proved kit | tr -d '\n' | awk -v altered="$1" '{
+    tr -d '\n' | awk -v altered="$1" '{
         for (b = 0; b < 8; b++) {
             e = substr($0, 116 * b + 1, 116)
             flag = b < 4 ? 59 : 58
@@ -51,10 +60,17 @@ flagged() { # COUNT
     }'
 }
 
-# Three altered flags are repaired, four give 9.
+# The last of the lines on standard input is answered so.
+ends_in() { [ "$(run_proved kit | tail -n 1)" = "$1" ]; } # ANSWER
+
+# Three altered flags are repaired by the others, and four by the parity; where it is bad as FACCH and as speech, four flags give 9.
 flags_as_printed() {
-    for altered in 0 1 2 3; do
-        [ "$(flagged $altered | run_proved kit | tail -n 1)" = "speech 0 0 $(zeros 260)" ] || return 1
+    for altered in 0 1 2 3 4; do
+        sent_zeros 260 | flagged $altered | ends_in "speech 0 0 $(zeros 260)" || return 1
+        sent_zeros 184 | flagged $altered | ends_in "facch 0 0 $(zeros 184)" || return 1
     done
-    [ "$(flagged 4 | run_proved kit | tail -n 1)" = 'refused 9 0' ]
+    # as FACCH the speech has three ones, those of p; a good FACCH has an even number, since D + 1 divides its generator
+    sent_zeros 260 | flagged 5 | ends_in 'refused 8 0 0' || return 1
+    for altered in 3 5; do zeros 928 | flagged $altered | ends_in 'refused 8 0 0' || return 1; done
+    zeros 928 | flagged 4 | ends_in 'refused 9 0'
 }

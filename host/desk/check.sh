@@ -1,6 +1,6 @@
 # The desk program beside the independent reference, on text files from Windows, on hostile input and where nobody takes its
-# answers; the C hosts that pass identities of several types and measure the stack; the program that README.md prints. Sourced by
-# POSIX sh after host/setup.sh, where good and bad tell of what passed and what failed.
+# answers; the C hosts that pass identities of several types, give every reason and measure the stack; the program that README.md
+# prints. Sourced by POSIX sh after host/setup.sh, where good and bad tell of what passed and what failed.
 
 carriage_return=$(printf '\r')
 
@@ -265,6 +265,16 @@ passes() { # PROGRAM ROOM
 # Identities of several types of C.
 check_widths() { # WIDTHS ROOM
     if passes "$1" "$2"; then good "desk: $(cat "$2/said")"; else bad "desk on identities of several types of C"; fi
+}
+
+# Every refusal of README, and no other, has its words in desk.h.
+check_words() { # REASONS ROOM README
+    printed_refusals "$3" >"$2/refusals"
+    if passes "$1" "$2" && [ -s "$2/refusals" ] && cmp "$2/said" "$2/refusals"; then
+        good "desk.h has README's words for $(wc -l <"$2/refusals") refusals"
+    else
+        bad "desk.h has other words for refusals than README"
+    fi
 }
 
 # How much stack the calls need.

@@ -77,7 +77,10 @@ static inline uint32_t desk_count(uint32_t answer)
     return answer % 65536;
 }
 
-/* The reason of a number in words, those of the table of refusals in README.md; never null. */
+/*
+ * The reason of a number in words, those of the table of refusals in README.md; never null. It knows the numbers of the streams too,
+ * 4 to 7 and 9, which the calls below never give and the kit does.
+ */
 static inline const char *desk_reason(uint32_t number)
 {
     switch (number) {
@@ -89,8 +92,18 @@ static inline const char *desk_reason(uint32_t number)
         return "a bit is neither 0 nor 1";
     case DESK_WRONG_IDENTITY:
         return "the identity is over 63";
+    case 4:
+        return "the burst is not the next one";
+    case 5:
+        return "the stream is full: 16383 blocks are sent, or burst 65535 is taken";
+    case 6:
+        return "nothing was sent before the end";
+    case 7:
+        return "the stream has ended";
     case DESK_BAD_PARITY:
         return "the parity is bad";
+    case 9:
+        return "four of the eight flags are 1, and the parity is bad as FACCH and as speech";
     default:
         return "no refusal has this number";
     }

@@ -31,6 +31,7 @@ fn rows() -> Vec<Vec<usize>> {
     rows.push(found(&four_away()));
     rows.push(ones_on_bursts());
     rows.push(flags_of_a_stream());
+    rows.extend(of_both_kinds());
     rows
 }
 
@@ -134,23 +135,36 @@ fn flags_of_a_stream() -> Vec<usize> {
     numbers(&flags.concat())
 }
 
+/// So many bits, of which those at the given places are 1.
+fn ones_alone(n: usize, places: [usize; 2]) -> Vec<u8> {
+    (0..n).map(|k| u8::from(places.contains(&k))).collect()
+}
+
+/// Where the ones of the coded bits stand, for a FACCH with ones at d(0) and d(4), and for a speech
+/// block with the same bits of u under its parity, d(0) and d(8), and the FACCH's last 78 bits.
+fn of_both_kinds() -> [Vec<usize>; 2] {
+    let facch = sent(&CONTROL, NO_IDENTITY, &ones_alone(184, [0, 4]));
+    let d = [&ones_alone(182, [0, 8]), &facch[378..]].concat();
+    [ones_at(&facch), ones_at(&sent(&SPEECH, NO_IDENTITY, &d))]
+}
+
 #[cfg(test)]
 mod tests {
     use super::*;
     use crate::model::coding::convolve;
 
     #[test]
-    fn there_are_thirteen_rows() {
+    fn there_are_fifteen_rows() {
         let lengths: Vec<usize> = rows().iter().map(|row| row.len()).collect();
         assert_eq!(lengths[..3], [40, 10, 36]);
         assert_eq!(lengths[9..11], [25, 25]);
-        assert_eq!((lengths[12], lengths.len()), (24, 13));
+        assert_eq!(lengths[12..], [24, 48, 48]);
     }
 
     #[test]
     fn numbers_are_parted_by_single_spaces() {
         assert_eq!(line(&[1, 0, 182]), "1 0 182");
-        assert_eq!(lines().len(), 13);
+        assert_eq!(lines().len(), 15);
     }
 
     #[test]
@@ -231,5 +245,16 @@ mod tests {
         assert_eq!(flags[..8], [0, 1, 0, 1, 0, 1, 0, 1]);
         assert_eq!(flags[8..16], [1, 0, 1, 0, 1, 0, 1, 0]);
         assert_eq!(flags[16..], [0; 8]);
+    }
+
+    #[test]
+    fn the_block_of_both_kinds_is_good_as_either() {
+        let [facch, speech] = of_both_kinds();
+        assert_eq!(facch, speech);
+        let c: Vec<u8> = (0..456).map(|k| u8::from(facch.contains(&k))).collect();
+        for channel in [CONTROL, SPEECH] {
+            let (count, d) = channel.decode(NO_IDENTITY, &c, channel.reads).unwrap();
+            assert_eq!((count, d[0], d[1]), (0, 1, 0), "{}", channel.name);
+        }
     }
 }

@@ -119,7 +119,7 @@ mod tests {
             "nothing was sent before the end",
             "the stream has ended",
             "the parity is bad",
-            "four of the eight flags are 1",
+            "four of the eight flags are 1, and the parity is bad as FACCH and as speech",
         ];
         assert_eq!(told, expected);
         assert_eq!(refusals().len(), 9);

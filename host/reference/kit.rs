@@ -486,7 +486,7 @@ mod tests {
     }
 
     #[test]
-    fn four_flags_are_refused_with_n() {
+    fn zeros_with_four_flags_are_refused_with_n() {
         // hu of the first four bursts of a block is 1, hl of the last four is 0.
         let expected = two_answers("refused 9 0", "refused 9 1");
         assert_eq!(twelve_taken("{0*57}01{0*57}"), expected);
@@ -670,9 +670,8 @@ mod tests {
         (0..sent.len()).step_by(116).map(burst).collect()
     }
 
-    /// The answers of a kit that takes one block, sent and ended, with lent buffers of sevens.
-    fn taken_to_sevens(block: &str) -> Vec<String> {
-        let bursts = bursts_of(&[block]);
+    /// The answers of a kit that takes the bursts of one block, with lent buffers of sevens.
+    fn taken_to_sevens(bursts: &[String]) -> Vec<String> {
         let take = |(number, e)| format!("lend 260 7 take {} {}", number, e).into_bytes();
         let lines: Vec<Vec<u8>> = bursts.iter().enumerate().map(take).collect();
         answers(&lines)
@@ -680,11 +679,26 @@ mod tests {
 
     #[test]
     fn facch_leaves_the_last_76_bytes() {
-        let facch = taken_to_sevens("{1101*46}");
+        let facch = taken_to_sevens(&bursts_of(&["{1101*46}"]));
         assert_eq!(facch[..7], vec![full("waiting {7*260}"); 7]);
         assert_eq!(facch[7], full("facch 0 0 {1101*46}{7*76}"));
-        let speech = taken_to_sevens("{0110*65}");
+        let speech = taken_to_sevens(&bursts_of(&["{0110*65}"]));
         assert_eq!(speech[7], full("speech 0 0 {0110*65}"));
+    }
+
+    #[test]
+    fn four_flags_leave_it_to_the_parity_what_is_written() {
+        for (block, expected) in [
+            ("{1101*46}", "facch 0 0 {1101*46}{7*76}"),
+            ("{0110*65}", "speech 0 0 {0110*65}"),
+        ] {
+            let mut bursts = bursts_of(&[block]);
+            // hu of two of the first four bursts, hl of two of the last four.
+            turn_over(&mut bursts, &[(0, 58), (2, 58), (5, 57), (7, 57)]);
+            let answers = taken_to_sevens(&bursts);
+            assert_eq!(answers[..7], vec![full("waiting {7*260}"); 7]);
+            assert_eq!(answers[7], full(expected));
+        }
     }
 
     #[test]
@@ -798,7 +812,10 @@ mod tests {
         answered(&[
             ("why 1", "a buffer has the wrong length"),
             ("why 003", "the identity is over 63"),
-            ("why 00009", "four of the eight flags are 1"),
+            (
+                "why 00009",
+                "four of the eight flags are 1, and the parity is bad as FACCH and as speech",
+            ),
         ]);
     }
 
@@ -908,7 +925,8 @@ mod tests {
 
     #[test]
     fn a_bad_block_leaves_the_totals_of_the_good_ones() {
-        let mut bursts = bursts_of(&["{01*130}", "{1*184}", "{0*260}"]);
+        // Between the blocks of two ended streams lies one of zeros.
+        let mut bursts = [bursts_of(&["{01*130}"]), bursts_of(&["{0*260}"])].concat();
         // c(0) of the first and of the last block; four flags of the one between them.
         turn_over(&mut bursts, &[(0, 0), (8, 0)]);
         turn_over(&mut bursts, &[(4, 58), (5, 58), (6, 58), (7, 58)]);
@@ -916,6 +934,17 @@ mod tests {
         let expected = twelve_totals("1 0 0 1", "1 0 1 1");
         assert_eq!(totals[..12], expected[..]);
         assert_eq!(totals[12..], ["1 0 1 1", "1 0 1 1", "1 0 1 1", "2 0 1 2"]);
+    }
+
+    #[test]
+    fn blocks_with_four_flags_are_in_the_totals_of_their_kind() {
+        let mut bursts = bursts_of(&["{01*130}", "{1*184}"]);
+        // c(0) of both blocks, and four flags of each.
+        turn_over(&mut bursts, &[(0, 0), (4, 0)]);
+        turn_over(&mut bursts, &[(0, 58), (1, 58), (2, 58), (3, 58)]);
+        turn_over(&mut bursts, &[(4, 58), (5, 58), (6, 58), (7, 58)]);
+        let totals = totals_after_each(&bursts);
+        assert_eq!(totals, twelve_totals("1 0 0 1", "1 1 0 2"));
     }
 
     /// Takes a FACCH block of which one bit is altered.

@@ -9,6 +9,7 @@
 #[path = "../reference/model/mod.rs"]
 mod model;
 
+use model::burst::Interleaving;
 use model::channel::{self, Channel};
 use model::receiving_stream::{Receiver, Taken};
 use model::sending_stream::{sent_and_ended, Sender};
@@ -53,11 +54,26 @@ fn send(calls: usize, length: usize) -> bool {
     repeat(calls, || sender.send(&d, 464)).is_ok()
 }
 
+/// The eight bursts of a block, as they are sent.
+fn as_sent(block: &Vec<u8>) -> Vec<Vec<u8>> {
+    sent_and_ended(from_ref(block))
+}
+
+/// The same with four flags that are 1, so that FACCH is tried before speech.
+fn tied(block: &Vec<u8>) -> Vec<Vec<u8>> {
+    let mut bursts = as_sent(block);
+    Interleaving::Diagonal(0).put_flags(&mut bursts, &[1, 1, 1, 1, 0, 0, 0, 0]);
+    bursts
+}
+
+/// How the bursts of a block come.
+type Bursts = fn(&Vec<u8>) -> Vec<Vec<u8>>;
+
 /// Whether so many of a block's eight bursts are taken: the eighth brings the block. The totals are
 /// read after each where they are charted.
-fn take(calls: usize, length: usize, charted: bool) -> bool {
+fn take(calls: usize, length: usize, bursts: Bursts, charted: bool) -> bool {
     let block = bits(length);
-    let bursts = sent_and_ended(from_ref(&block));
+    let bursts = bursts(&block);
     let mut receiver = Receiver::fresh();
     let mut numbered = (0..).zip(&bursts);
     let mut drawn = 0;
@@ -87,9 +103,10 @@ fn run(name: &str, calls: usize) -> bool {
         (_, "decode", Some(channel)) => decode(channel, calls),
         ("send", "speech", _) => send(calls, 260),
         ("send", "facch", _) => send(calls, 184),
-        ("take", "speech", _) => take(calls, 260, false),
-        ("take", "facch", _) => take(calls, 184, false),
-        ("take", "charted", _) => take(calls, 260, true),
+        ("take", "speech", _) => take(calls, 260, as_sent, false),
+        ("take", "facch", _) => take(calls, 184, as_sent, false),
+        ("take", "tie", _) => take(calls, 260, tied, false),
+        ("take", "charted", _) => take(calls, 260, as_sent, true),
         _ => false,
     }
 }

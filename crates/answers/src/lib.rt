@@ -21,7 +21,7 @@ pub enum Refusal {
     Ended,
     // 8: the parity is bad
     Parity,
-    // 9: four of the eight flags are 1
+    // 9: four of the eight flags are 1, and the parity is bad as FACCH and as speech
     Flags,
 }
 

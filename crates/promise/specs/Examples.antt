@@ -15,7 +15,7 @@ use Rattle.register.specs.Register.{from, bit, way, best, choice, walk}
 use Rattle.trellis.specs.Nearest.{differ, pairCost, rowAt, nearest, nearestCount}
 use Rattle.places.specs.Places.{hl, placeAt, bitAt, flagIn, cell, burst, four, flagsOf}
 use Rattle.coder.specs.Blocks.{speechP, speechUAt, speechU, speechBlock, controlU, controlBlock, colour, accessU, accessBurst, schU}
-use Rattle.coder.specs.Entries.{judged, entry, speechSent, accessSent}
+use Rattle.coder.specs.Entries.{judged, entry, speechSent, controlSent, accessSent}
 use Rattle.coder.specs.Examples.{onesFrom, Example, is, allHold}
 use Rattle.stream.specs.Sending.{blockOf, freshSender, sendJudged, sendTold, sentBursts, sentNext, sendAnswer, endJudged, endTold, endBursts, endAnswer, afterwards}
 use Rattle.promise.specs.Promise.{sendAll, made}
@@ -29,6 +29,14 @@ single n k = tab n (λ i. pick (eqb i k) 1 0)
 
 abbrev pub lit : List ℕ
 lit = tab 260 (λ k. pick (both (leb 188 k) (leb k 195)) 1 0)
+
+-- a FACCH and a speech block that are sent as the same 456 bits (02, M-101: such speech comes out as FACCH where four flags are 1). The FACCH has ones
+-- at d(0) and d(4); the speech has those of u at d(0) and d(8), and the FACCH's last 78 coded bits for its own
+abbrev pub facchToo : List ℕ
+facchToo = tab 184 (λ k. pick (eqb k 0) 1 (pick (eqb k 4) 1 0))
+
+abbrev pub speechToo : List ℕ
+speechToo = tab 182 (λ k. pick (eqb k 0) 1 (pick (eqb k 8) 1 0)) ++ drop 378 (controlBlock facchToo)
 
 -- eight received pairs to which several blocks are nearest, and eight from which the nearest is four away
 abbrev pub tied : List ℕ
@@ -63,8 +71,10 @@ table =
     ∷ is (decoded fourAway) (0 ∷ 1 ∷ 1 ∷ 0 ∷ 0 ∷ 0 ∷ 0 ∷ 0 ∷ 4 ∷ [])
     ∷ is (onesFrom 0 (made lent (lit ∷ []))) (12 ∷ 20 ∷ 228 ∷ 322 ∷ 328 ∷ 336 ∷ 422 ∷ 428 ∷ 529 ∷ 537 ∷ 627 ∷ 727 ∷ 749 ∷ 827 ∷ 849 ∷ [])
     ∷ is (flagsSent (made lent (mixed 184 ∷ mixed 260 ∷ []))) (0 ∷ 1 ∷ 0 ∷ 1 ∷ 0 ∷ 1 ∷ 0 ∷ 1 ∷ 1 ∷ 0 ∷ 1 ∷ 0 ∷ 1 ∷ 0 ∷ 1 ∷ 0 ∷ 0 ∷ 0 ∷ 0 ∷ 0 ∷ 0 ∷ 0 ∷ 0 ∷ 0 ∷ [])
+    ∷ is (onesFrom 0 (controlSent facchToo (zeros 456) .left)) (0 ∷ 1 ∷ 3 ∷ 6 ∷ 7 ∷ 11 ∷ 14 ∷ 15 ∷ 16 ∷ 17 ∷ 380 ∷ 381 ∷ 383 ∷ 389 ∷ 391 ∷ 392 ∷ 393 ∷ 394 ∷ 395 ∷ 397 ∷ 398 ∷ 401 ∷ 402 ∷ 404 ∷ 406 ∷ 408 ∷ 410 ∷ 412 ∷ 414 ∷ 417 ∷ 425 ∷ 426 ∷ 427 ∷ 428 ∷ 430 ∷ 431 ∷ 435 ∷ 437 ∷ 438 ∷ 439 ∷ 440 ∷ 441 ∷ 443 ∷ 444 ∷ 447 ∷ 449 ∷ 454 ∷ 455 ∷ [])
+    ∷ is (onesFrom 0 (speechSent speechToo (zeros 456) .left)) (0 ∷ 1 ∷ 3 ∷ 6 ∷ 7 ∷ 11 ∷ 14 ∷ 15 ∷ 16 ∷ 17 ∷ 380 ∷ 381 ∷ 383 ∷ 389 ∷ 391 ∷ 392 ∷ 393 ∷ 394 ∷ 395 ∷ 397 ∷ 398 ∷ 401 ∷ 402 ∷ 404 ∷ 406 ∷ 408 ∷ 410 ∷ 412 ∷ 414 ∷ 417 ∷ 425 ∷ 426 ∷ 427 ∷ 428 ∷ 430 ∷ 431 ∷ 435 ∷ 437 ∷ 438 ∷ 439 ∷ 440 ∷ 441 ∷ 443 ∷ 444 ∷ 447 ∷ 449 ∷ 454 ∷ 455 ∷ [])
     ∷ []
 
 pub examples : allHold table ≡ true
-unfolding allHold table tab tabFrom add zeros ones digits value largest allBits occurs product lower divide remainder parity speechG controlG accessG schG back first second codedAt coded pairOf from bit way best choice walk differ pairCost rowAt nearest nearestCount placeAt bitAt flagIn cell burst four flagsOf speechP speechUAt speechU speechBlock controlU controlBlock colour accessU accessBurst schU judged entry speechSent accessSent tells sentOr blockOf freshSender sendJudged sendTold sentBursts sentNext sendAnswer endJudged endTold endBursts endAnswer afterwards sendAll made
+unfolding allHold table tab tabFrom add zeros ones digits value largest allBits occurs product lower divide remainder parity speechG controlG accessG schG back first second codedAt coded pairOf from bit way best choice walk differ pairCost rowAt nearest nearestCount placeAt bitAt flagIn cell burst four flagsOf speechP speechUAt speechU speechBlock controlU controlBlock colour accessU accessBurst schU judged entry speechSent controlSent accessSent tells sentOr blockOf freshSender sendJudged sendTold sentBursts sentNext sendAnswer endJudged endTold endBursts endAnswer afterwards sendAll made
 examples = refl

@@ -1,4 +1,5 @@
 pub mod Promise
 pub mod Totals
+pub mod Ties
 pub mod Examples
 pub mod laws

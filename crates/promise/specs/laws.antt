@@ -2,3 +2,4 @@ pub mod Sent
 pub mod Taken
 pub mod Promise
 pub mod Totals
+pub mod Ties

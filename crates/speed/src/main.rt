@@ -40,13 +40,16 @@ fn call(name: &[u8], calls: u8) -> u32 {
         return streams::send_facch(calls);
     }
     if same(name, b"take-speech") {
-        return streams::take_speech(calls);
+        return streams::take_speech(calls, 0, false);
     }
     if same(name, b"take-facch") {
         return streams::take_facch(calls);
     }
+    if same(name, b"take-tie") {
+        return streams::take_speech(calls, 1, false);
+    }
     if same(name, b"take-charted") {
-        return streams::take_charted(calls);
+        return streams::take_speech(calls, 0, true);
     }
     call_block(name, calls)
 }

@@ -49,29 +49,27 @@ fn send(calls: u8, d: &[u8]) -> u32 {
     seen(told, &e)
 }
 
-pub fn take_speech(calls: u8) -> u32 {
+// Speech, of which four flags arrive as given; if so asked, the chart reads the totals after each burst.
+pub fn take_speech(calls: u8, flag: u8, charted: bool) -> u32 {
     let mut d = [0u8; 260];
     fill(&mut d);
-    take(calls, &d, false)
+    take(calls, &d, flag, charted)
 }
 
 pub fn take_facch(calls: u8) -> u32 {
     let mut d = [0u8; 184];
     fill(&mut d);
-    take(calls, &d, false)
+    take(calls, &d, 1, false)
 }
 
-// As speech, and after each burst the chart reads the totals.
-pub fn take_charted(calls: u8) -> u32 {
-    let mut d = [0u8; 260];
-    fill(&mut d);
-    take(calls, &d, true)
-}
-
-// The bursts of a block that is sent and ended, taken in order.
-fn take(calls: u8, d: &[u8], charted: bool) -> u32 {
+// The bursts of a block that is sent and ended, the flags of the first four as given, taken in order.
+fn take(calls: u8, d: &[u8], flag: u8, charted: bool) -> u32 {
     let mut e = [0u8; 928];
     make(d, &mut e);
+    e[58] = flag;
+    e[174] = flag;
+    e[290] = flag;
+    e[406] = flag;
     take_all(calls, &e, charted)
 }
 

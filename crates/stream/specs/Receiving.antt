@@ -40,7 +40,7 @@ takeJudged true true false true = told.Done
 unfoldable pub takeTold : Receiver → ℕ → List ℕ → List ℕ → Told
 takeTold s b e d = takeJudged (both (eqb (length e) 116) (eqb (length d) 260)) (allBits e) (leb 65536 (s .next .0)) (eqb b (s .next .0))
 
--- 01: the eight flags are counted as one number's ones; 0 to 3 mean speech, 5 to 8 FACCH
+-- 01: the eight flags are counted as one number's ones; 0 to 3 mean speech, 5 to 8 FACCH; 4 say neither
 unfoldable pub vote : ℕ → Kind
 vote flags = pick (ltb (count.ones flags) 4) kind.Speech (pick (ltb 4 (count.ones flags)) kind.Facch kind.Neither)
 
@@ -55,11 +55,17 @@ speechOf n h d = goodOrBad (h .good) (taken.Speech (record { 0 = n }) (h .count)
 unfoldable pub facchOf : ℕ → Hearing → List ℕ → Answer Taken
 facchOf n h d = goodOrBad (h .good) (taken.Facch (record { 0 = n }) (h .count)) (h .bits ++ drop 184 d) (taken.Bad (record { 0 = n }) (h .count)) d
 
+-- 02, M-101: with four ones block n is FACCH where its parity as control is good; else speech where its parity as speech is; else 9, and the buffer
+-- stands as before
+unfoldable pub tied : ℕ → Hearing → Hearing → List ℕ → Answer Taken
+tied n control speech d =
+    pick (control .good) (facchOf n control d) (pick (speech .good) (speechOf n speech d) (record { result = taken.Tie (record { 0 = n }); left = d }))
+
 -- of the coded bits c of block n, received as the kind that its flags say
 unfoldable pub byKind : Kind → ℕ → List ℕ → List ℕ → Answer Taken
 byKind kind.Speech n c d = speechOf n (speechHeard c) d
 byKind kind.Facch n c d = facchOf n (blockHeard controlG 0 184 c) d
-byKind kind.Neither n c d = record { result = taken.Tie (record { 0 = n }); left = d }
+byKind kind.Neither n c d = tied n (blockHeard controlG 0 184 c) (speechHeard c) d
 
 -- the answer for block n, out of the held bursts
 unfoldable pub blockAnswer : List ℕ → ℕ → List ℕ → Answer Taken

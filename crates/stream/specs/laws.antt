@@ -3,3 +3,4 @@ pub mod Sending
 pub mod Receiving
 pub mod Calls
 pub mod Says
+pub mod Nine

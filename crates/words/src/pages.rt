@@ -34,7 +34,7 @@ help WORD: what stands after WORD, and what it answers; help alone lists the wor
 why N: refusal N in words";
 
 // A line for each refusal, from 1 on.
-const REASONS: [u8; 276] = *b"a buffer has the wrong length
+const REASONS: [u8; 322] = *b"a buffer has the wrong length
 a bit is neither 0 nor 1
 the identity is over 63
 the burst is not the next one
@@ -42,7 +42,7 @@ the stream is full: 16383 blocks are sent, or burst 65535 is taken
 nothing was sent before the end
 the stream has ended
 the parity is bad
-four of the eight flags are 1";
+four of the eight flags are 1, and the parity is bad as FACCH and as speech";
 
 pub fn all_words() -> [u8; 117]
     ensures { λ r. ⌜ 117 ≡ length r ⌝ }
@@ -56,8 +56,8 @@ pub fn help_page() -> [u8; 1605]
     HELP
 }
 
-pub fn reasons_page() -> [u8; 276]
-    ensures { λ r. ⌜ 276 ≡ length r ⌝ }
+pub fn reasons_page() -> [u8; 322]
+    ensures { λ r. ⌜ 322 ≡ length r ⌝ }
 {
     REASONS
 }

@@ -6,6 +6,9 @@ use crate::model::bits::inverted;
 use crate::model::burst::Interleaving::Diagonal;
 use crate::model::burst::BURST;
 
+/// What alters the bursts of an ended stream.
+pub type Cable = fn(&mut Random, &mut [Vec<u8>]);
+
 /// The cable of a lesson: quiet and noisy stretches, altered flags, bad bursts.
 pub fn lesson(random: &mut Random, bursts: &mut [Vec<u8>]) {
     let mut noisy = random.one_in(3);
@@ -18,6 +21,9 @@ pub fn lesson(random: &mut Random, bursts: &mut [Vec<u8>]) {
             noise(random, c);
             let number = altered_flags(random);
             lists::alter(random, flags, number);
+            if number == 4 && random.one_in(2) {
+                drown(random, c);
+            }
         });
     }
     for burst in 0..bursts.len() {
@@ -29,13 +35,35 @@ pub fn lesson(random: &mut Random, bursts: &mut [Vec<u8>]) {
     }
 }
 
-/// The cable of a long stream: few bits and flags altered now and then, a bad burst seldom.
+/// The cable of a lesson on ties: of most blocks four flags are 1, of the others some other number,
+/// whatever the kind. The bits are quiet, noisy or such as no one sent.
+pub fn ties(random: &mut Random, bursts: &mut [Vec<u8>]) {
+    for n in 0..blocks(bursts) {
+        change_block(bursts, n, |c, flags| {
+            match random.below(10) {
+                0..=5 => quiet_bits(random, c),
+                6 | 7 => noisy_bits(random, c),
+                _ => c.copy_from_slice(&lists::unsent(random, c.len())),
+            }
+            flags.fill(0);
+            let ones = random.pick(&[4, 4, 4, 4, 4, 4, 0, 3, 5, 8]);
+            lists::alter(random, flags, ones);
+        });
+    }
+}
+
+/// The cable of a long stream: few bits and flags altered now and then, a block drowned or a burst
+/// bad seldom.
 pub fn light(random: &mut Random, bursts: &mut [Vec<u8>]) {
     for n in 0..blocks(bursts) {
         change_block(bursts, n, |c, flags| match random.below(100) {
             0..=11 => quiet_bits(random, c),
             12 | 13 => lists::alter(random, flags, 3),
             14 => lists::alter(random, flags, 4),
+            15 => {
+                lists::alter(random, flags, 4);
+                drown(random, c);
+            }
             _ => {}
         });
     }
@@ -80,14 +108,19 @@ fn noisy_bits(random: &mut Random, c: &mut [u8]) {
     }
 }
 
+/// 90 altered bits, which leave the parity bad as either kind, mostly.
+fn drown(random: &mut Random, c: &mut [u8]) {
+    lists::alter(random, c, 90);
+}
+
 /// How many of a block's flags are altered: mostly none, or so many that the vote is near.
 fn altered_flags(random: &mut Random) -> usize {
     match random.below(20) {
         0 => 1 + random.below(2),
         1..=3 => 3,
-        4 | 5 => 4,
-        6 => 5,
-        7 => 6 + random.below(3),
+        4..=6 => 4,
+        7 => 5,
+        8 => 6 + random.below(3),
         _ => 0,
     }
 }
@@ -117,6 +150,7 @@ fn silence(random: &mut Random, bursts: &mut [Vec<u8>], first: usize) {
 mod tests {
     use super::*;
     use crate::model::bits::ones;
+    use crate::model::channel::{Channel, CONTROL, NO_IDENTITY, SPEECH};
 
     /// The bursts of so many blocks, all zeros.
     fn zeros(blocks: usize) -> Vec<Vec<u8>> {
@@ -127,7 +161,7 @@ mod tests {
     fn bursts_stay_bursts() {
         let mut random = Random::new(71);
         for number in 0..20 {
-            for cable in [lesson, light] {
+            for cable in [lesson, ties, light] {
                 let mut bursts = if number == 0 {
                     Vec::new()
                 } else {
@@ -181,7 +215,20 @@ mod tests {
             seen[altered_flags(&mut random)] += 1;
         }
         assert!(seen.iter().all(|&times| times > 20), "{:?}", seen);
-        assert!(seen[3] > 200 && seen[4] > 100);
+        assert!(seen[3] > 200 && seen[4] > 200);
+    }
+
+    #[test]
+    fn most_blocks_tie_on_the_cable_of_ties() {
+        let mut bursts = zeros(1000);
+        ties(&mut Random::new(187), &mut bursts);
+        let mut seen = [0; 9];
+        for n in 0..1000 {
+            seen[ones(&Diagonal(n).flags(&bursts))] += 1;
+        }
+        assert!(seen[4] > 500, "{:?}", seen);
+        assert!([0, 3, 5, 8].iter().all(|&ones| seen[ones] > 50));
+        assert!([1, 2, 6, 7].iter().all(|&ones| seen[ones] == 0));
     }
 
     #[test]
@@ -195,6 +242,24 @@ mod tests {
             seen[ones(&c[..378])] += 1;
         }
         assert!(seen.iter().all(|&times| times > 100), "{:?}", seen);
+    }
+
+    #[test]
+    fn drowned_blocks_are_mostly_bad_as_either_kind() {
+        let mut random = Random::new(188);
+        let is_bad = |channel: Channel, c: &[u8]| {
+            let answer = channel.decode(NO_IDENTITY, c, channel.reads);
+            answer.is_err()
+        };
+        for sent in [SPEECH, CONTROL] {
+            let is_drowned = |_: &usize| {
+                let mut c = sent.coded(NO_IDENTITY, &random_bits(&mut random, sent.reads));
+                drown(&mut random, &mut c);
+                is_bad(SPEECH, &c) && is_bad(CONTROL, &c)
+            };
+            let number = (0..100).filter(is_drowned).count();
+            assert!(number > 70, "{}: {}", sent.name, number);
+        }
     }
 
     #[test]

@@ -83,6 +83,15 @@ pub fn pattern(random: &mut Random, length: usize) -> Vec<u8> {
     (0..length).map(|k| bits[k % period]).collect()
 }
 
+/// A list that no one sent: all alike but for a few, a pattern, or random.
+pub fn unsent(random: &mut Random, length: usize) -> Vec<u8> {
+    match random.below(3) {
+        0 => few_turned(random, length),
+        1 => pattern(random, length),
+        _ => random_bits(random, length),
+    }
+}
+
 #[cfg(test)]
 mod tests {
     use super::*;

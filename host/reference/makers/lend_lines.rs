@@ -91,7 +91,7 @@ pub fn with_or_without(random: &mut Random, line: Vec<u8>) -> Vec<u8> {
 }
 
 /// Refusal 1, before all others: a buffer of another length.
-fn wrongly_lent(random: &mut Random, line: &[u8]) -> Vec<u8> {
+pub fn wrongly_lent(random: &mut Random, line: &[u8]) -> Vec<u8> {
     let right = writes(line).unwrap_or(0);
     let length = another_length(random, right);
     lent(random, length, line)

@@ -1,7 +1,7 @@
 //! A lesson: a stream of blocks on its way from a sender through the cable to a receiver, and the
 //! kit lines that this takes.
 
-use crate::chance::cable;
+use crate::chance::cable::{self, Cable};
 use crate::chance::lists;
 use crate::chance::random::Random;
 use crate::makers::fields::{good_bits, number_of};
@@ -60,9 +60,14 @@ pub fn take_numbered(random: &mut Random, number: usize, e: &[u8]) -> Vec<u8> {
 impl Lesson {
     /// A stream of so many random blocks, not begun.
     pub fn new(random: &mut Random, number: usize) -> Lesson {
-        let blocks: Vec<Vec<u8>> = (0..number).map(|_| block(random, 3)).collect();
+        let blocks = (0..number).map(|_| block(random, 3)).collect();
+        Lesson::of(random, blocks, cable::lesson)
+    }
+
+    /// A stream of these blocks, in characters, not begun; its bursts go through this cable.
+    pub fn of(random: &mut Random, blocks: Vec<Vec<u8>>, cable: Cable) -> Lesson {
         let mut bursts = sent_bursts(&blocks);
-        cable::lesson(random, &mut bursts);
+        cable(random, &mut bursts);
         Lesson {
             blocks,
             bursts,
@@ -120,11 +125,7 @@ impl Lesson {
 
     /// Takes a burst that no one sent, under the next number.
     pub fn take_unsent(&mut self, random: &mut Random) -> Vec<u8> {
-        let e = match random.below(3) {
-            0 => lists::few_turned(random, BURST),
-            1 => lists::pattern(random, BURST),
-            _ => lists::random_bits(random, BURST),
-        };
+        let e = lists::unsent(random, BURST);
         self.take_under_next(random, &characters(&e))
     }
 

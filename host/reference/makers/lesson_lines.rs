@@ -6,12 +6,21 @@ use crate::makers::lesson::Lesson;
 use crate::makers::refused_calls;
 use crate::model::sending_stream::MOST_BLOCKS;
 
-/// So many lines of lessons, each with fresh streams; the kit's are so for the first.
+/// So many lines of lessons.
 pub fn lessons(random: &mut Random, count: usize) -> Vec<Vec<u8>> {
-    let mut lines = any_lesson(random);
+    on_fresh_streams(random, count, any_lesson)
+}
+
+/// So many lines of lessons of a sort, each with fresh streams; the kit's are so for the first.
+pub fn on_fresh_streams(
+    random: &mut Random,
+    count: usize,
+    lesson: fn(&mut Random) -> Vec<Vec<u8>>,
+) -> Vec<Vec<u8>> {
+    let mut lines = lesson(random);
     while lines.len() < count {
         lines.push(b"fresh".to_vec());
-        lines.extend(any_lesson(random));
+        lines.extend(lesson(random));
     }
     lines.truncate(count);
     lines
@@ -45,7 +54,7 @@ fn any_lesson(random: &mut Random) -> Vec<Vec<u8>> {
 }
 
 /// The lines that send a stream's blocks and take its bursts, with others in between.
-fn carried(random: &mut Random, lesson: &mut Lesson, ends: bool) -> Vec<Vec<u8>> {
+pub fn carried(random: &mut Random, lesson: &mut Lesson, ends: bool) -> Vec<Vec<u8>> {
     // How often the receiver comes first where both could go on.
     let takes_of_ten = random.pick(&[1, 8, 10]);
     let mut lines = vec![refused_calls::refused_by_sender(random, lesson)];

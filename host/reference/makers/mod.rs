@@ -13,6 +13,7 @@ mod sent_lines;
 mod sheet_lines;
 #[cfg(test)]
 mod sorts;
+mod ties_lines;
 mod totals_lines;
 mod view_lines;
 mod windows_lines;
@@ -32,7 +33,7 @@ pub struct Maker {
 }
 
 /// All makers.
-pub static MAKERS: [Maker; 11] = [
+pub static MAKERS: [Maker; 12] = [
     Maker {
         mode: "make-lines",
         numbers: "SEED COUNT",
@@ -80,6 +81,12 @@ pub static MAKERS: [Maker; 11] = [
         numbers: "SEED COUNT",
         with_returns: false,
         lines: totals_lines::lines,
+    },
+    Maker {
+        mode: "make-ties",
+        numbers: "SEED COUNT",
+        with_returns: false,
+        lines: ties_lines::lines,
     },
     Maker {
         mode: "make-windows",

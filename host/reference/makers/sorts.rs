@@ -39,7 +39,7 @@ pub fn all_are(seed: u64, number: usize, sort: impl Fn(&mut Random) -> Vec<u8>, 
 
 /// A call that is done, or a block found bad, whose burst has been taken; the others with a no
 /// leave all as before.
-fn is_done(answer: &str) -> bool {
+pub fn is_done(answer: &str) -> bool {
     let bad = ["refused 8", "refused 9"];
     let is_refused = answer.starts_with("refused");
     answer != "?" && (!is_refused || bad.iter().any(|words| answer.starts_with(words)))

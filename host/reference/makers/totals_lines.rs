@@ -96,6 +96,7 @@ mod tests {
     use super::*;
     use crate::kit::{answer, answers};
     use crate::makers::sorts::{all_are, streams_are_left_by_the_refused, times};
+    use crate::makers::ties_lines;
 
     #[test]
     fn each_wrong_sort_is_wrong_as_meant() {
@@ -187,21 +188,33 @@ mod tests {
         after_each
     }
 
+    /// Over so many questions are asked, and each is answered by what the printed answers add up to;
+    /// each of the four numbers is not 0 in a sixth of them.
+    fn are_added_up(lines: &[Vec<u8>], answers: &[String], least: usize) {
+        let expected = added_up(lines, answers);
+        let asked = asked(lines);
+        assert!(asked.len() > least, "{}", asked.len());
+        for &k in &asked {
+            assert_eq!(answers[k], printed(expected[k]), "line {}", k);
+        }
+        for place in 0..4 {
+            let not_0 = asked.iter().filter(|&&k| expected[k][place] > 0);
+            assert!(not_0.count() > least / 6, "number {}", place);
+        }
+    }
+
     #[test]
     fn the_totals_are_what_the_printed_answers_add_up_to() {
         for seed in 164..168 {
             let (lines, answers) = answered(seed);
-            let expected = added_up(&lines, &answers);
-            let asked = asked(&lines);
-            assert!(asked.len() > 1200, "{}", asked.len());
-            for &k in &asked {
-                assert_eq!(answers[k], printed(expected[k]), "line {}", k);
-            }
-            for place in 0..4 {
-                let not_0 = asked.iter().filter(|&&k| expected[k][place] > 0);
-                assert!(not_0.count() > 200, "number {}", place);
-            }
+            are_added_up(&lines, &answers, 1200);
         }
+    }
+
+    #[test]
+    fn the_totals_of_ties_are_what_the_printed_answers_add_up_to() {
+        let lines = ties_lines::lines(&mut Random::new(196), 4000);
+        are_added_up(&lines, &answers(&lines), 200);
     }
 
     #[test]

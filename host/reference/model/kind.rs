@@ -45,7 +45,7 @@ impl Kind {
             .find(|kind| kind.channel().reads == length)
     }
 
-    /// 0 to 3 ones mean speech, 5 to 8 FACCH, 4 neither.
+    /// 0 to 3 ones mean speech, 5 to 8 FACCH; 4 tell no kind.
     pub fn of_flags(flags: &[u8]) -> Option<Kind> {
         match ones(flags) {
             0..=3 => Some(Kind::Speech),
@@ -87,7 +87,7 @@ mod tests {
     }
 
     #[test]
-    fn any_four_flags_are_neither_and_more_the_other_kind() {
+    fn any_four_flags_tell_no_kind_and_more_the_other_one() {
         for pattern in 0..256_u64 {
             let expected = match pattern.count_ones() {
                 0..=3 => Some(Kind::Speech),

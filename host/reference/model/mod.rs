@@ -1,5 +1,5 @@
-//! What GSM 05.03 (document 000) and paper 01 define: how blocks are coded and put on bursts, how
-//! they are found again, and the two streams.
+//! What GSM 05.03 (document 000) and papers 01 and 02 define: how blocks are coded and put on
+//! bursts, how they are found again, and the two streams.
 
 pub mod bits;
 pub mod burst;

@@ -24,7 +24,7 @@ fn verdict(channel: &Channel, identity: u64, found: Survivor, d: Vec<u8>) -> Rec
 
 /// d(2k) = u(k) and d(2k+1) = u(184-k) for k = 0..90
 /// d(182+k) = c(378+k) for k = 0..77, as received
-fn speech_bits(u: &[u8], c: &[u8]) -> Vec<u8> {
+pub fn speech_bits(u: &[u8], c: &[u8]) -> Vec<u8> {
     let mut d = vec![0; 260];
     for k in 0..=90 {
         d[2 * k] = u[k];

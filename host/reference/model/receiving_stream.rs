@@ -70,6 +70,24 @@ pub struct Receiver {
     answers: Vec<Kept>,
 }
 
+/// A good block: its kind, the count and the information bits.
+type Block = Result<(Kind, usize, Vec<u8>), Refusal>;
+
+/// Coded bits as a block of one kind; refusal 8 if the parity is bad.
+fn decoded(kind: Kind, c: &[u8]) -> Block {
+    let channel = kind.channel();
+    let (count, d) = channel.decode(NO_IDENTITY, c, channel.reads)?;
+    Ok((kind, count, d))
+}
+
+/// Coded bits whose flags tell no kind, so that the parity does: they are FACCH if it is good as
+/// FACCH, else speech if it is good as speech, else there is refusal 9. 02, M-101
+fn of_either_kind(c: &[u8]) -> Block {
+    decoded(Kind::Facch, c)
+        .or_else(|_| decoded(Kind::Speech, c))
+        .map_err(|_| Refusal::FourFlags)
+}
+
 /// Burst 4n+7 brings the answer for block n, every other burst none.
 fn answered(burst: usize) -> Option<usize> {
     match burst % 4 {
@@ -138,24 +156,25 @@ impl Receiver {
         }
     }
 
-    /// The kind of block n, its count and its information bits; refusal 9 comes before 8.
-    fn block(&self, n: usize) -> Result<(Kind, usize, Vec<u8>), Refusal> {
+    /// Block n, of the kind that its flags tell; of either kind if they tell none.
+    fn block(&self, n: usize) -> Block {
         let spread = Interleaving::Diagonal(n);
-        let kind = Kind::of_flags(&spread.flags(&self.bursts)).ok_or(Refusal::FourFlags)?;
         let c = spread.bits(&self.bursts);
-        let channel = kind.channel();
-        let (count, d) = channel.decode(NO_IDENTITY, &c, channel.reads)?;
-        Ok((kind, count, d))
+        match Kind::of_flags(&spread.flags(&self.bursts)) {
+            Some(kind) => decoded(kind, &c),
+            None => of_either_kind(&c),
+        }
     }
 }
 
 #[cfg(test)]
 mod tests {
     use super::*;
+    use crate::chance::both_kinds::block_of_both_kinds;
     use crate::chance::cable::{self, change_block};
     use crate::chance::lists::{alter, random_bits};
     use crate::chance::random::Random;
-    use crate::model::bits::inverted;
+    use crate::model::bits::{bits_of, inverted, ones};
     use crate::model::burst::cut;
     use crate::model::burst::Interleaving::Diagonal;
     use crate::model::kind::blocks;
@@ -251,57 +270,181 @@ mod tests {
         assert_eq!(answered(65_535), Some(16_382));
     }
 
-    #[test]
-    fn three_flags_altered_are_repaired_and_four_give_9() {
-        let mut random = Random::new(66);
-        let blocks = blocks(66, "sfssff");
-        let sent = sent_and_ended(&blocks);
-        for n in 0..6 {
-            for number in 0..=3 {
-                let mut bursts = sent.clone();
-                alter_flags(&mut random, &mut bursts, n, number);
-                assert_eq!(answers(&bursts), answers(&sent));
+    /// The kind that a block with these information bits is not.
+    fn other_kind(d: &[u8]) -> Kind {
+        match Kind::of_length(d.len()).unwrap() {
+            Kind::Speech => Kind::Facch,
+            Kind::Facch => Kind::Speech,
+        }
+    }
+
+    /// What is answered for block n if its coded bits are decoded as this kind and no other.
+    fn as_kind(n: usize, kind: Kind, c: &[u8]) -> Taken {
+        let channel = kind.channel();
+        match channel.decode(NO_IDENTITY, c, channel.reads) {
+            Ok((count, d)) => Taken::Good { n, kind, count, d },
+            Err(refusal) => Taken::Bad { n, refusal },
+        }
+    }
+
+    /// The parity of these coded bits is good as this kind.
+    fn is_good(kind: Kind, c: &[u8]) -> bool {
+        matches!(as_kind(0, kind, c), Taken::Good { .. })
+    }
+
+    /// Gives block n these coded bits and these flags.
+    fn put_block(bursts: &mut [Vec<u8>], n: usize, c: &[u8], flags: &[u8]) {
+        Diagonal(n).put_bits(bursts, c);
+        Diagonal(n).put_flags(bursts, flags);
+    }
+
+    /// Eight flags, so many of them 1.
+    fn flags_with(random: &mut Random, ones: usize) -> Vec<u8> {
+        let mut flags = vec![0; 8];
+        alter(random, &mut flags, ones);
+        flags
+    }
+
+    /// The bursts of six blocks, of random bits; the flags are random too, or four of each block's.
+    fn any_bursts(random: &mut Random) -> Vec<Vec<u8>> {
+        let mut bursts = cut(&random_bits(random, 28 * BURST));
+        if random.one_in(2) {
+            for n in 0..6 {
+                Diagonal(n).put_flags(&mut bursts, &flags_with(random, 4));
             }
-            let mut bursts = sent.clone();
-            alter_flags(&mut random, &mut bursts, n, 4);
-            let mut expected = answers(&sent);
-            expected[n] = four_flags(n);
-            assert_eq!(answers(&bursts), expected);
+        }
+        bursts
+    }
+
+    /// Random coded bits that have a bad parity as either kind.
+    fn noise(random: &mut Random) -> Vec<u8> {
+        loop {
+            let c = random_bits(random, 456);
+            if !is_good(Kind::Facch, &c) && !is_good(Kind::Speech, &c) {
+                return c;
+            }
         }
     }
 
     #[test]
-    fn zeros_have_a_bad_parity_as_either_kind() {
-        let mut bursts = vec![vec![0; BURST]; 8];
-        assert_eq!(answers(&bursts), [bad_parity(0, 0)]);
-        Diagonal(0).put_flags(&mut bursts, &[1, 0, 1, 1, 0, 1, 0, 1]);
-        assert_eq!(answers(&bursts), [bad_parity(0, 0)]);
+    fn up_to_four_altered_flags_are_repaired() {
+        let mut random = Random::new(66);
+        let blocks = blocks(66, "sfssff");
+        let sent = sent_and_ended(&blocks);
+        for n in 0..6 {
+            for number in 0..=4 {
+                let mut bursts = sent.clone();
+                alter_flags(&mut random, &mut bursts, n, number);
+                assert_eq!(answers(&bursts), answers(&sent));
+            }
+        }
     }
 
     #[test]
-    fn four_flags_come_before_a_bad_parity() {
-        let mut bursts = vec![vec![0; BURST]; 8];
-        Diagonal(0).put_flags(&mut bursts, &[0, 0, 0, 0, 1, 1, 1, 1]);
-        assert_eq!(answers(&bursts), [four_flags(0)]);
+    fn five_or_more_altered_flags_make_the_other_kind() {
+        let mut random = Random::new(182);
+        let blocks = blocks(182, "sfssff");
+        let sent = sent_and_ended(&blocks);
+        for n in 0..6 {
+            for number in 5..=8 {
+                let mut bursts = sent.clone();
+                alter_flags(&mut random, &mut bursts, n, number);
+                let mut expected = answers(&sent);
+                expected[n] = as_kind(n, other_kind(&blocks[n]), &Diagonal(n).bits(&sent));
+                assert_eq!(answers(&bursts), expected);
+            }
+        }
     }
 
     #[test]
-    fn three_altered_bits_and_flags_are_repaired_however_the_neighbours_fare() {
+    fn zeros_with_four_flags_are_refused_with_9_and_with_others_with_8() {
+        for pattern in 0..256 {
+            let flags = bits_of(pattern, 8);
+            let mut bursts = vec![vec![0; BURST]; 8];
+            Diagonal(0).put_flags(&mut bursts, &flags);
+            let expected = match ones(&flags) {
+                4 => four_flags(0),
+                _ => bad_parity(0, 0),
+            };
+            assert_eq!(answers(&bursts), [expected], "{:?}", flags);
+        }
+    }
+
+    #[test]
+    fn noise_with_four_flags_is_refused_with_9_and_with_others_with_8_and_its_count() {
+        let mut random = Random::new(183);
+        let sent = sent_and_ended(&blocks(183, "sff"));
+        for _ in 0..10 {
+            let c = noise(&mut random);
+            for ones in 0..=8 {
+                let mut bursts = sent.clone();
+                put_block(&mut bursts, 1, &c, &flags_with(&mut random, ones));
+                let mut expected = answers(&sent);
+                expected[1] = match ones {
+                    0..=3 => as_kind(1, Kind::Speech, &c),
+                    4 => four_flags(1),
+                    _ => as_kind(1, Kind::Facch, &c),
+                };
+                assert_eq!(answers(&bursts), expected, "{} ones", ones);
+            }
+        }
+    }
+
+    #[test]
+    fn three_altered_bits_and_four_flags_are_repaired_however_the_neighbours_fare() {
         let mut random = Random::new(67);
         let blocks = blocks(67, "sfsfsf");
         let sent = sent_and_ended(&blocks);
         for n in 0..6 {
+            let kind = Kind::of_length(blocks[n].len()).unwrap();
             for altered in 0..=3 {
-                let mut bursts = cut(&random_bits(&mut random, 28 * BURST));
-                let kind = Kind::of_length(blocks[n].len()).unwrap();
-                change_block(&mut bursts, n, |c, flags| {
-                    c.copy_from_slice(&Diagonal(n).bits(&sent));
-                    flags.copy_from_slice(&Diagonal(n).flags(&sent));
-                    let protected = kind.channel().protected();
-                    alter(&mut random, &mut c[..protected], altered);
-                    alter(&mut random, flags, altered);
-                });
-                assert_eq!(answers(&bursts)[n], as_sent(n, &blocks[n], altered));
+                let mut c = Diagonal(n).bits(&sent);
+                alter(&mut random, &mut c[..kind.channel().protected()], altered);
+                // A speech block that is good as FACCH would come out as FACCH.
+                assert!(kind == Kind::Facch || !is_good(Kind::Facch, &c));
+                for flags_altered in 0..=4 {
+                    let mut flags = kind.flags();
+                    alter(&mut random, &mut flags, flags_altered);
+                    let mut bursts = any_bursts(&mut random);
+                    put_block(&mut bursts, n, &c, &flags);
+                    assert_eq!(answers(&bursts)[n], as_sent(n, &blocks[n], altered));
+                }
+            }
+        }
+    }
+
+    #[test]
+    fn a_block_of_both_kinds_is_facch_from_four_flags_on() {
+        let mut random = Random::new(184);
+        for _ in 0..5 {
+            let (speech, facch) = block_of_both_kinds(&mut random);
+            let c = Kind::Speech.channel().coded(NO_IDENTITY, &speech);
+            for ones in 0..=8 {
+                let mut bursts = any_bursts(&mut random);
+                put_block(&mut bursts, 1, &c, &flags_with(&mut random, ones));
+                let d = if ones <= 3 { &speech } else { &facch };
+                assert_eq!(answers(&bursts)[1], as_sent(1, d, 0), "{} ones", ones);
+            }
+        }
+    }
+
+    #[test]
+    fn a_block_of_both_kinds_has_the_count_of_the_kind_that_it_comes_out_as() {
+        let mut random = Random::new(185);
+        for altered in 1..=3 {
+            let (mut speech, facch) = block_of_both_kinds(&mut random);
+            let mut c = Kind::Facch.channel().coded(NO_IDENTITY, &facch);
+            // Bits that are unprotected in speech, and there given as received.
+            alter(&mut random, &mut c[378..], altered);
+            speech[182..].copy_from_slice(&c[378..]);
+            for (ones, expected) in [
+                (3, as_sent(0, &speech, 0)),
+                (4, as_sent(0, &facch, altered)),
+                (5, as_sent(0, &facch, altered)),
+            ] {
+                let mut bursts = vec![vec![0; BURST]; 8];
+                put_block(&mut bursts, 0, &c, &flags_with(&mut random, ones));
+                assert_eq!(answers(&bursts), [expected], "{} ones", ones);
             }
         }
     }
@@ -450,26 +593,63 @@ mod tests {
     }
 
     #[test]
+    fn blocks_with_four_flags_are_totalled_as_what_they_come_out_as() {
+        let mut random = Random::new(186);
+        let mut bursts = sent_and_ended(&blocks(186, "fsssff"));
+        for (n, altered) in [(0, 2), (1, 3)] {
+            change_block(&mut bursts, n, |c, flags| {
+                alter(&mut random, &mut c[..378], altered);
+                alter(&mut random, flags, 4);
+            });
+        }
+        let (_, facch) = block_of_both_kinds(&mut random);
+        let of_both_kinds = Kind::Facch.channel().coded(NO_IDENTITY, &facch);
+        let noise = noise(&mut random);
+        for (n, c, ones) in [
+            (2, &noise, 4),
+            (3, &of_both_kinds, 4),
+            (4, &of_both_kinds, 3),
+            (5, &noise, 5),
+        ] {
+            put_block(&mut bursts, n, c, &flags_with(&mut random, ones));
+        }
+        let after_each = totals_after_each(&bursts);
+        let expected = [
+            totals(0, 1, 0, 2),
+            totals(1, 1, 0, 5),
+            totals(1, 1, 1, 5),
+            totals(1, 2, 1, 5),
+            totals(2, 2, 1, 5),
+            totals(2, 2, 2, 5),
+        ];
+        for n in 0..6 {
+            assert_eq!(after_each[4 * n + 7], expected[n], "block {}", n);
+        }
+    }
+
+    #[test]
     fn the_totals_are_what_the_answers_add_up_to() {
         let mut random = Random::new(102);
-        let mut bursts = sent_and_ended(&blocks(102, &"ssf".repeat(30)));
-        cable::lesson(&mut random, &mut bursts);
-        let mut sum = totals(0, 0, 0, 0);
-        for (taken, after) in given(&bursts).iter().zip(totals_after_each(&bursts)) {
-            match taken {
-                Taken::Waiting => {}
-                Taken::Good { kind, count, .. } => {
-                    sum.counts += count;
-                    match kind {
-                        Kind::Speech => sum.speech += 1,
-                        Kind::Facch => sum.facch += 1,
+        for cable in [cable::lesson, cable::ties] {
+            let mut bursts = sent_and_ended(&blocks(102, &"ssf".repeat(30)));
+            cable(&mut random, &mut bursts);
+            let mut sum = totals(0, 0, 0, 0);
+            for (taken, after) in given(&bursts).iter().zip(totals_after_each(&bursts)) {
+                match taken {
+                    Taken::Waiting => {}
+                    Taken::Good { kind, count, .. } => {
+                        sum.counts += count;
+                        match kind {
+                            Kind::Speech => sum.speech += 1,
+                            Kind::Facch => sum.facch += 1,
+                        }
                     }
+                    Taken::Bad { .. } => sum.refused += 1,
                 }
-                Taken::Bad { .. } => sum.refused += 1,
+                assert_eq!(after, sum);
             }
-            assert_eq!(after, sum);
+            assert_eq!(sum.speech + sum.facch + sum.refused, 90);
+            assert!(sum.speech > 10 && sum.facch > 5 && sum.refused > 10 && sum.counts > 10);
         }
-        assert_eq!(sum.speech + sum.facch + sum.refused, 90);
-        assert!(sum.speech > 10 && sum.facch > 5 && sum.refused > 10 && sum.counts > 10);
     }
 }

@@ -19,7 +19,7 @@ pub enum Refusal {
     Ended,
     /// The parity is bad; the count is returned besides.
     BadParity { count: usize },
-    /// Four of the eight flags are 1.
+    /// Four of the eight flags are 1, and the parity is bad as FACCH and as speech.
     FourFlags,
 }
 

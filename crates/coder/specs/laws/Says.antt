@@ -159,6 +159,17 @@ decodes h c pairs g word handed x accepts finds-bad if-good if-bad = record {
   bad = λ e. if-bad (x .bad e);
 }
 
+-- of 456 bits as a control block, and as a speech block
+abbrev ByVerdict : Hearing → ((ℕ → List ℕ → Type 0) → (ℕ → Type 0) → Type 0) → Type 1
+ByVerdict h decoded =
+    (accepts : ℕ → List ℕ → Type 0) (finds-bad : ℕ → Type 0) → (h .good ≡ true → accepts (h .count) (h .bits)) → (h .good ≡ false → finds-bad (h .count)) → decoded accepts finds-bad
+
+pub control-decodes : (c : List ℕ) → ByVerdict (blockHeard controlG 0 184 c) (BlockDecodes controlG 0 184 228 c)
+control-decodes c = decodes (blockHeard controlG 0 184 c) c 228 controlG (blockWord controlG 0 184) (take 184) (block-heard controlG 0 184 228 c (omega (arith, control-long)) (lit≤ tt))
+
+pub speech-decodes : (c : List ℕ) → ByVerdict (speechHeard c) (SpeechDecodes c)
+speech-decodes c = decodes (speechHeard c) (take 378 c) 189 speechG speechWord (λ u. speechD u ++ drop 378 c) (speech-heard c)
+
 -- ---- receiving
 module _ (n m i : ℕ) (c d : List ℕ) (h : Hearing) where
   refused-as : (x : Refusal) → told n m i c d ≡ Refused x → Refuses ofHeard (reception n m i c h d) (numberOf x) d

@@ -7,7 +7,7 @@ use Prim.Native.Nat.{ℕ, zero, suc, _+_, _*_, _/_, _%_, _≤_, _<_}
 use native.Mathlib.Omega.{arith}
 use lib.Dec.{ltb, eqb}
 use lib.ListN.{length, getD, take, drop}
-use borrow.Author.Tests.{lt-ltb, le-ltb, eqb-true}
+use borrow.Author.Tests.{eqb-true}
 use lib.Count.{ones}
 use Rattle.answers.specs.Answers.{Answer, Meets}
 use Rattle.bits.specs.Bits.{Bits, pick, tab, value, total}
@@ -19,12 +19,14 @@ use Rattle.places.specs.Places.{eAt, hl, hu}
 use Rattle.burst.specs.laws.Held.{ones-of-flags}
 use Rattle.places.specs.laws.Places.{every-bit}
 use Rattle.coder.specs.Blocks.{speechBlock, controlBlock}
-use Rattle.coder.specs.Received.{Hearing}
+use Rattle.coder.specs.Received.{Hearing, blockHeard, speechHeard}
 use Rattle.coder.specs.laws.Blocks.{control-size, speech-size}
 use Rattle.coder.specs.laws.Hearings.{control-hearing, speech-hearing}
+use Rattle.parity.specs.Division.{controlG}
 use Rattle.trellis.specs.Nearest.{differ, disagreements}
 use Rattle.chart.specs.Answers.{ofTaken}
 use Rattle.stream.specs.Receiving.{vote, byKind, speechOf, facchOf, goodOrBad}
+use Rattle.stream.specs.laws.Receiving.{vote-few, vote-many, vote-four}
 use Rattle.stream.specs.laws.Says.{block-says}
 use Rattle.stream.specs.Sending.{isFacch, isBlock, blockOf, flagOf, freshSender}
 use Rattle.chart.specs.declared.Taken.{Taken}
@@ -93,7 +95,7 @@ never-a-third M few rx rx' out here here' B same n h first last =
     let is = heard-stands rx rx' B n same first last (out (4 * n + 7)) in
     (one .result ∙ ap (λ (x : Answer Taken). x .result) is ∙ sym (two .result), one .left ∙ ap (λ (x : Answer Taken). x .left) is ∙ sym (two .left))
 
--- ---- three bitsAltered flags don't change the vote
+-- ---- how many flags are 1, by how many are altered
 differ-zero : (r : ℕ) → r ≤ 1 → differ 0 r ≡ r
 unfolding differ
 differ-zero zero h = refl
@@ -106,22 +108,28 @@ differ-one zero h = refl
 differ-one (suc zero) h = refl
 differ-one (suc (suc r)) h = let z : ⊥ = omega arith in absurd z
 
+-- of flags that were 0 as many are 1 as are altered, of flags that were 1 as many as are not
 module _ (f : ℕ → ℕ) (bits : (i : ℕ) → f i ≤ 1) where
-  counted : ones (value (tab 8 f)) ≡ total 8 f
-  counted = ones-of-flags f bits 8
+  abbrev flagged : ℕ
+  flagged = value (tab 8 f)
 
-  few-ones : total 8 (λ i. differ 0 (f i)) ≤ 3 → vote (value (tab 8 f)) ≡ kind.Speech
-  unfolding vote
-  few-ones h =
-      let e : total 8 (λ i. differ 0 (f i)) ≡ total 8 f = total-same 8 (λ i. differ 0 (f i)) f (λ i l. differ-zero (f i) (bits i)) in
-      simp (lt-ltb (ones (value (tab 8 f))) 4 (omega (arith, e, h, counted)))
+  of-zeros : ones flagged ≡ total 8 (λ i. differ 0 (f i))
+  of-zeros = ones-of-flags f bits 8 ∙ sym (total-same 8 (λ i. differ 0 (f i)) f (λ i l. differ-zero (f i) (bits i)))
 
-  many-ones : total 8 (λ i. differ 1 (f i)) ≤ 3 → vote (value (tab 8 f)) ≡ kind.Facch
-  unfolding vote total
-  many-ones h =
-      let e : total 8 f + total 8 (λ i. differ 1 (f i)) ≡ total 8 (λ i. 1) =
-      sym (total-add 8 f (λ i. differ 1 (f i))) ∙ total-same 8 (λ i. f i + differ 1 (f i)) (λ i. 1) (λ i l. differ-one (f i) (bits i)) in
-      simp (le-ltb (ones (value (tab 8 f))) 4 (omega (arith, e, h, counted)), lt-ltb 4 (ones (value (tab 8 f))) (omega (arith, e, h, counted)))
+  of-ones : ones flagged + total 8 (λ i. differ 1 (f i)) ≡ 8
+  unfolding total
+  of-ones =
+      ap (λ (k : ℕ). k + total 8 (λ i. differ 1 (f i))) (ones-of-flags f bits 8)
+      ∙ sym (total-add 8 f (λ i. differ 1 (f i)))
+      ∙ total-same 8 (λ i. f i + differ 1 (f i)) (λ i. 1) (λ i l. differ-one (f i) (bits i))
+
+  as-sent : (b : Bool) → total 8 (λ i. differ (flagOf b) (f i)) ≤ 3 → vote flagged ≡ pick b kind.Facch kind.Speech
+  as-sent true h = vote-many flagged (omega (arith, of-ones, h))
+  as-sent false h = vote-few flagged (omega (arith, of-zeros, h))
+
+  as-neither : (b : Bool) → total 8 (λ i. differ (flagOf b) (f i)) ≡ 4 → vote flagged ≡ kind.Neither
+  as-neither true h = vote-four flagged (omega (arith, of-ones, h))
+  as-neither false h = vote-four flagged (omega (arith, of-zeros, h))
 
 -- ---- what burst 4n+7 brings where block n comes back, and what that is in 01's values
 abbrev facchBack : List ℕ → ℕ → ℕ → List ℕ → Answer Taken
@@ -191,48 +199,64 @@ module _ (ds : List (List ℕ)) (lesson : Lesson ds) (lent : ℕ → List ℕ) (
       ∙ total-same 8 (λ i. differ (getD (blockFlags sent n) i 0) (getD (blockFlags rx n) i 0)) (λ i. differ (flagOf (isFacch (length d))) (getD (blockFlags rx n) i 0))
       (λ i l. ap (λ (x : ℕ). differ x (getD (blockFlags rx n) i 0)) (sent-flags i l))
 
-  -- ---- what comes out
-  module _ (rx : List ℕ) (bits : Bits rx) (out : List ℕ) (few : bitsAltered d sent rx n ≤ 3) (flags : flagsAltered sent rx n ≤ 3) where
+  -- ---- what its flags say: three altered ones don't change the vote, and four leave it open
+  module _ (rx : List ℕ) (bits : Bits rx) where
     flag-bits : (i : ℕ) → getD (blockFlags rx n) i 0 ≤ 1
     unfolding blockFlags
     flag-bits = bits-tab 8 (λ i. getD rx (116 * (firstBurst n + i) + pick (ltb i 4) hu hl) 0) (λ i. bits (116 * (firstBurst n + i) + pick (ltb i 4) hu hl))
-
-    fewer : total 8 (λ i. differ (flagOf (isFacch (length d))) (getD (blockFlags rx n) i 0)) ≤ 3
-    fewer = subst (λ (x : ℕ). x ≤ 3) (flags-differ rx) flags
 
     flags-by : blockFlags rx n ≡ tab 8 (λ i. getD (blockFlags rx n) i 0)
     unfolding blockFlags
     flags-by = is-tab 8 (λ i. getD (blockFlags rx n) i 0) (blockFlags rx n) (length-tab 8 (λ i. getD rx (116 * (firstBurst n + i) + pick (ltb i 4) hu hl) 0)) (λ i l. refl)
 
-    -- block n as its flags say, and as it is heard
-    heard-as : (k : Kind) → vote (value (blockFlags rx n)) ≡ k → answerFor rx n out ≡ byKind k n (blockBits rx n) out
-    unfolding answerFor
-    heard-as k e = ap (λ (x : Kind). byKind x n (blockBits rx n) out) e
+    vote-as-sent : flagsAltered sent rx n ≤ 3 → vote (value (blockFlags rx n)) ≡ pick (isFacch (length d)) kind.Facch kind.Speech
+    vote-as-sent few =
+        ap (λ (f : List ℕ). vote (value f)) flags-by
+        ∙ as-sent (λ i. getD (blockFlags rx n) i 0) flag-bits (isFacch (length d)) (subst (λ (x : ℕ). x ≤ 3) (flags-differ rx) few)
 
-    comes : (b : Bool) → isFacch (length d) ≡ b → answerFor rx n out ≡ comesOut d n (bitsAltered d sent rx n) (blockBits rx n) out
-    unfolding comesOut byKind speechOf facchOf goodOrBad bitsAltered protected blockOf
-    comes true e =
-        let c : List ℕ = blockBits rx n in
+    pub vote-ties : flagsAltered sent rx n ≡ 4 → vote (value (blockFlags rx n)) ≡ kind.Neither
+    vote-ties four =
+        ap (λ (f : List ℕ). vote (value f)) flags-by
+        ∙ as-neither (λ i. getD (blockFlags rx n) i 0) flag-bits (isFacch (length d)) (sym (flags-differ rx) ∙ four)
+
+  -- ---- what is heard of it: the block as sent, good, and the number altered
+  module _ (rx : List ℕ) (few : bitsAltered d sent rx n ≤ 3) where
+    abbrev arrived : List ℕ
+    arrived = blockBits rx n
+
+    pub facch-heard : isFacch (length d) ≡ true → blockHeard controlG 0 184 arrived ≡ record { bits = d; good = true; count = bitsAltered d sent rx n }
+    unfolding bitsAltered protected blockOf
+    facch-heard e =
         let block : blockBits sent n ≡ controlBlock d = sent-own ∙ ap (λ (b : Bool). pick b (controlBlock d) (speechBlock d)) e in
-        let count : bitsAltered d sent rx n ≡ disagreements c (controlBlock d) =
-        ap (λ (b : Bool). disagreements (pick b c (take 378 c)) (pick b (blockBits sent n) (take 378 (blockBits sent n)))) e ∙ ap (disagreements c) block in
-        let heard = control-hearing d c (eqb-true (length d) 184 e) (valid .bits) (subst (λ (x : ℕ). x ≤ 3) count few) in
-        let vote-is = many-ones (λ i. getD (blockFlags rx n) i 0) flag-bits (subst (λ (b : Bool). total 8 (λ i. differ (flagOf b) (getD (blockFlags rx n) i 0)) ≤ 3) e fewer) in
-        heard-as kind.Facch (ap (λ (f : List ℕ). vote (value f)) flags-by ∙ vote-is)
-        ∙ ap (λ (x : Hearing). facchOf n x out) heard
-        ∙ ap (λ (k : ℕ). facchBack d n k out) (sym count)
-        ∙ sym (ap (λ (b : Bool). pick b (facchBack d n (bitsAltered d sent rx n) out) (speechBack d n (bitsAltered d sent rx n) c)) e)
-    comes false e =
-        let c : List ℕ = blockBits rx n in
+        let count : bitsAltered d sent rx n ≡ disagreements arrived (controlBlock d) =
+        ap (λ (b : Bool). disagreements (pick b arrived (take 378 arrived)) (pick b (blockBits sent n) (take 378 (blockBits sent n)))) e ∙ ap (disagreements arrived) block in
+        control-hearing d arrived (eqb-true (length d) 184 e) (valid .bits) (subst (λ (x : ℕ). x ≤ 3) count few)
+        ∙ ap (λ (k : ℕ). record { bits = d; good = true; count = k }) (sym count)
+
+    pub speech-heard : isFacch (length d) ≡ false → speechHeard arrived ≡ record { bits = take 182 d ++ drop 378 arrived; good = true; count = bitsAltered d sent rx n }
+    unfolding bitsAltered protected blockOf
+    speech-heard e =
         let block : blockBits sent n ≡ speechBlock d = sent-own ∙ ap (λ (b : Bool). pick b (controlBlock d) (speechBlock d)) e in
-        let count : bitsAltered d sent rx n ≡ disagreements (take 378 c) (take 378 (speechBlock d)) =
-        ap (λ (b : Bool). disagreements (pick b c (take 378 c)) (pick b (blockBits sent n) (take 378 (blockBits sent n)))) e ∙ ap (λ (x : List ℕ). disagreements (take 378 c) (take 378 x)) block in
-        let heard = speech-hearing d c (is-speech d (valid .kind) e) (valid .bits) (subst (λ (x : ℕ). x ≤ 3) count few) in
-        let vote-is = few-ones (λ i. getD (blockFlags rx n) i 0) flag-bits (subst (λ (b : Bool). total 8 (λ i. differ (flagOf b) (getD (blockFlags rx n) i 0)) ≤ 3) e fewer) in
-        heard-as kind.Speech (ap (λ (f : List ℕ). vote (value f)) flags-by ∙ vote-is)
-        ∙ ap (λ (x : Hearing). speechOf n x out) heard
-        ∙ ap (λ (k : ℕ). speechBack d n k c) (sym count)
-        ∙ sym (ap (λ (b : Bool). pick b (facchBack d n (bitsAltered d sent rx n) out) (speechBack d n (bitsAltered d sent rx n) c)) e)
+        let count : bitsAltered d sent rx n ≡ disagreements (take 378 arrived) (take 378 (speechBlock d)) =
+        ap (λ (b : Bool). disagreements (pick b arrived (take 378 arrived)) (pick b (blockBits sent n) (take 378 (blockBits sent n)))) e ∙ ap (λ (x : List ℕ). disagreements (take 378 arrived) (take 378 x)) block in
+        speech-hearing d arrived (is-speech d (valid .kind) e) (valid .bits) (subst (λ (x : ℕ). x ≤ 3) count few)
+        ∙ ap (λ (k : ℕ). record { bits = take 182 d ++ drop 378 arrived; good = true; count = k }) (sym count)
+
+  -- ---- what comes out
+  module _ (rx : List ℕ) (bits : Bits rx) (out : List ℕ) (few : bitsAltered d sent rx n ≤ 3) (flags : flagsAltered sent rx n ≤ 3) where
+    abbrev k : ℕ
+    k = bitsAltered d sent rx n
+
+    comes : (b : Bool) → isFacch (length d) ≡ b → answerFor rx n out ≡ comesOut d n k (blockBits rx n) out
+    unfolding answerFor comesOut byKind speechOf facchOf goodOrBad
+    comes true e =
+        ap (λ (x : Kind). byKind x n (blockBits rx n) out) (vote-as-sent rx bits flags ∙ ap (λ (b : Bool). pick b kind.Facch kind.Speech) e)
+        ∙ ap (λ (x : Hearing). facchOf n x out) (facch-heard rx few e)
+        ∙ sym (ap (λ (b : Bool). pick b (facchBack d n k out) (speechBack d n k (blockBits rx n))) e)
+    comes false e =
+        ap (λ (x : Kind). byKind x n (blockBits rx n) out) (vote-as-sent rx bits flags ∙ ap (λ (b : Bool). pick b kind.Facch kind.Speech) e)
+        ∙ ap (λ (x : Hearing). speechOf n x out) (speech-heard rx few e)
+        ∙ sym (ap (λ (b : Bool). pick b (facchBack d n k out) (speechBack d n k (blockBits rx n))) e)
 
 -- ---- demand 3
 pub stream-promise : StreamPromise

@@ -9,6 +9,7 @@ use lib.Dec.{eqb, leb, lit≤}
 use lib.ListN.{drop}
 use borrow.Author.Tests.{eqb-true, eqb-false, leb-true, leb-false}
 use Rattle.answers.specs.Answers.{Answer}
+use Rattle.bits.specs.Bits.{pick}
 use Rattle.answers.specs.Calls.{Happened}
 use Rattle.answers.specs.declared.Refusal.{Refusal}
 use Rattle.answers.specs.declared.Told.{Told}
@@ -32,7 +33,7 @@ use Rattle.chart.specs.declared.Taken.{Taken}
 use Rattle.chart.specs.declared.Taken.the-variants as taken
 use Rattle.chart.specs.declared.totals.Totals.{Totals}
 use Rattle.stream.specs.Calls.{TakeCall, receiverAnswer}
-use Rattle.stream.specs.Receiving.{freshReceiver, takeTold, vote, goodOrBad, speechOf, facchOf, byKind, blockAnswer, atEnding, burstAnswer, takenNext, afterTaking, takeAnswer}
+use Rattle.stream.specs.Receiving.{freshReceiver, takeTold, vote, goodOrBad, speechOf, facchOf, tied, byKind, blockAnswer, atEnding, burstAnswer, takenNext, afterTaking, takeAnswer}
 use Rattle.stream.specs.Says.{Takeable}
 use Rattle.stream.specs.declared.receiver.Received.{Received}
 use Rattle.stream.specs.declared.receiver.Receiver.{Receiver}
@@ -49,22 +50,41 @@ unfolding goodOrBad
 good-or-bad true t u x y p q = p
 good-or-bad false t u x y p q = q
 
-of-kind : (k : Kind) (n : ℕ) (c d : List ℕ) → Adds 1 (adds (byKind k n c d .result))
-unfolding byKind speechOf facchOf adds
-of-kind kind.Speech n c d =
-    let h : Hearing = speechHeard c in
-    good-or-bad (h .good) (taken.Speech (record { 0 = n }) (h .count)) (taken.Bad (record { 0 = n }) (h .count)) (h .bits) d
-    (record { blocks = lit≤ tt; counts = omega (arith, speech-most c) }) (record { blocks = lit≤ tt; counts = lit≤ tt })
-of-kind kind.Facch n c d =
-    let h : Hearing = blockHeard controlG 0 184 c in
-    good-or-bad (h .good) (taken.Facch (record { 0 = n }) (h .count)) (taken.Bad (record { 0 = n }) (h .count)) (h .bits ++ drop 184 d) d
-    (record { blocks = lit≤ tt; counts = omega (arith, control-most c) }) (record { blocks = lit≤ tt; counts = lit≤ tt })
-of-kind kind.Neither n c d = record { blocks = lit≤ tt; counts = lit≤ tt }
+module _ (n : ℕ) (c d : List ℕ) where
+  abbrev speech : Hearing
+  speech = speechHeard c
+
+  abbrev control : Hearing
+  control = blockHeard controlG 0 184 c
+
+  of-speech : Adds 1 (adds (speechOf n speech d .result))
+  unfolding speechOf adds
+  of-speech =
+      good-or-bad (speech .good) (taken.Speech (record { 0 = n }) (speech .count)) (taken.Bad (record { 0 = n }) (speech .count)) (speech .bits) d
+      (record { blocks = lit≤ tt; counts = omega (arith, speech-most c) }) (record { blocks = lit≤ tt; counts = lit≤ tt })
+
+  of-facch : Adds 1 (adds (facchOf n control d .result))
+  unfolding facchOf adds
+  of-facch =
+      good-or-bad (control .good) (taken.Facch (record { 0 = n }) (control .count)) (taken.Bad (record { 0 = n }) (control .count)) (control .bits ++ drop 184 d) d
+      (record { blocks = lit≤ tt; counts = omega (arith, control-most c) }) (record { blocks = lit≤ tt; counts = lit≤ tt })
+
+  of-tie : (b b' : Bool) → Adds 1 (adds (pick b (facchOf n control d) (pick b' (speechOf n speech d) (record { result = taken.Tie (record { 0 = n }); left = d })) .result))
+  unfolding adds
+  of-tie true b' = of-facch
+  of-tie false true = of-speech
+  of-tie false false = record { blocks = lit≤ tt; counts = lit≤ tt }
+
+  of-kind : (k : Kind) → Adds 1 (adds (byKind k n c d .result))
+  unfolding byKind tied
+  of-kind kind.Speech = of-speech
+  of-kind kind.Facch = of-facch
+  of-kind kind.Neither = of-tie (control .good) (speech .good)
 
 -- what burst b brings: one block where b is 4n+7, else nothing
 of-ending : (x : Ending) (held d : List ℕ) → Adds 1 (adds (atEnding x held d .result))
 unfolding atEnding blockAnswer adds
-of-ending (Block n) held d = of-kind (vote (heldFlags held (n .0))) (n .0) (heldBlock held (n .0)) d
+of-ending (Block n) held d = of-kind (n .0) (heldBlock held (n .0)) d (vote (heldFlags held (n .0)))
 of-ending Nothing held d = record { blocks = lit≤ tt; counts = lit≤ tt }
 
 no-block : (b : ℕ) → ((n : ℕ) → b ≡ 4 * n + 7 → ⊥) → (held d : List ℕ) → adds (burstAnswer held b d .result) ≡ four 0 0 0 0

@@ -4,10 +4,11 @@ use mathlib.Core.List.{List, _++_}
 use mathlib.Core.Path.{_≡_, refl, sym, ap, ap₂, _∙_, subst}
 use Prim.Native.Nat.{ℕ, _+_, _-_, _*_, _/_, _%_, _≤_, _<_}
 use native.Mathlib.Omega.{arith}
+use lib.Count as count
 use lib.Dec.{eqb, leb, ltb, lit≤}
 use lib.ListN.{length, take, drop, take-append-drop}
 use lib.Seq.{length-take-le, drop-drop}
-use borrow.Author.Tests.{eqb-true, leb-false, eq-eqb, ne-eqb, le-leb, lt-leb}
+use borrow.Author.Tests.{eqb-true, leb-false, eq-eqb, ne-eqb, le-leb, lt-leb, lt-ltb, le-ltb}
 use Rattle.bits.specs.Bits.{Bits, pick, both, allBits, tab, total}
 use Rattle.bits.specs.laws.Cases.{both-first, both-second}
 use Rattle.bits.specs.laws.Check.{all-bits, bits-all}
@@ -27,22 +28,42 @@ use Rattle.coder.specs.Received.{Hearing, blockHeard, speechHeard, reception, s
 use Rattle.coder.specs.laws.Heard.{hears-good, hears-bad}
 use Rattle.parity.specs.Division.{controlG}
 use Rattle.stream.specs.Says.{Takeable}
-use Rattle.stream.specs.Receiving.{takeJudged, takeTold, vote, goodOrBad, speechOf, facchOf, byKind, blockAnswer, atEnding, burstAnswer, takenNext, afterTaking, takeAnswer}
+use Rattle.stream.specs.Receiving.{takeJudged, takeTold, vote, goodOrBad, speechOf, facchOf, tied, byKind, blockAnswer, atEnding, burstAnswer, takenNext, afterTaking, takeAnswer}
 use Rattle.chart.specs.declared.Taken.{Taken}
 use Rattle.chart.specs.declared.Taken.the-variants as taken
 use Rattle.stream.specs.declared.receiver.Received.{Received}
 use Rattle.stream.specs.declared.receiver.Receiver.{Receiver}
 use Rattle.chart.specs.declared.Kind.{Kind}
-use Rattle.chart.specs.declared.Kind.the-variants.{Speech, Facch}
+use Rattle.chart.specs.declared.Kind.the-variants.{Speech, Facch, Neither}
 
 -- ---- the block that is gathered
-pub held-bits : (held : List ℕ) (n : ℕ) → Bits (heldBlock held n)
+held-bits : (held : List ℕ) (n : ℕ) → Bits (heldBlock held n)
 unfolding heldBlock heldBlockAt heldBit
 held-bits held n = bits-tab 456 (heldBlockAt held n) (λ k. omega arith)
 
-pub held-long : (held : List ℕ) (n : ℕ) → length (heldBlock held n) ≡ 456
+held-long : (held : List ℕ) (n : ℕ) → length (heldBlock held n) ≡ 456
 unfolding heldBlock
 held-long held n = length-tab 456 (heldBlockAt held n)
+
+pub held-given : (held d c : List ℕ) (n : ℕ) → c ≡ heldBlock held n → length d ≡ 260 → (length c ≡ 456) × Bits c × (length d ≡ 260)
+held-given held d c n e ld = (ap length e ∙ held-long held n, subst Bits (sym e) (held-bits held n), ld)
+
+-- ---- the vote, by how many of the flags are 1
+module _ (flags : ℕ) where
+  abbrev counted : ℕ
+  counted = count.ones flags
+
+  pub vote-four : counted ≡ 4 → vote flags ≡ Neither
+  unfolding vote
+  vote-four h = rw h refl
+
+  pub vote-few : counted < 4 → vote flags ≡ Speech
+  unfolding vote
+  vote-few h = simp (lt-ltb counted 4 h)
+
+  pub vote-many : 4 < counted → vote flags ≡ Facch
+  unfolding vote
+  vote-many h = simp (le-ltb counted 4 (omega (arith, h)), lt-ltb 4 counted h)
 
 -- ---- what coder's entry says, as take says it
 abbrev goodAs : Bool → ℕ → ℕ → Taken
@@ -75,49 +96,140 @@ unfolding goodOrBad
 picked-left true t u x y = refl
 picked-left false t u x y = refl
 
-module _ (held d c : List ℕ) (n : ℕ) (ec : c ≡ heldBlock held n) (ld : length d ≡ 260) (r : Heard) (after : List ℕ) where
+module _ (c d : List ℕ) (n : ℕ) (lc : length c ≡ 456) (bc : Bits c) (ld : length d ≡ 260) (r : Heard) (after : List ℕ) where
   given : {m : ℕ} (out : List ℕ) → length out ≡ m → Given 456 m c out
-  given out l = record { reads = ap length ec ∙ held-long held n; bits = subst Bits (sym ec) (held-bits held n); lends = l }
+  given out l = record { reads = lc; bits = bc; lends = l }
 
   pub speech-brought : Meets (speechReceived c d) r after
-      → Meets (byKind Speech n (heldBlock held n) d) (asTaken false n r) after
+      → Meets (byKind Speech n c d) (asTaken false n r) after
   unfolding speechReceived byKind speechOf
   speech-brought said =
       let h : Hearing = speechHeard c in
-      let good : ℕ → Taken = λ k. taken.Speech (record { 0 = n }) k in
+      let good : Taken = taken.Speech (record { 0 = n }) (h .count) in
       let bad : Taken = taken.Bad (record { 0 = n }) (h .count) in
       let both-are = heard-as 456 260 c d (given d ld) h r after said false n (h .good) refl in
-      record {
-        result = both-are .0 ∙ picked-told (h .good) (good (h .count)) bad (h .bits) d ∙ ap (λ (x : List ℕ). speechOf n (speechHeard x) d .result) ec;
-        left = both-are .1 ∙ picked-left (h .good) (good (h .count)) bad (h .bits) d ∙ ap (λ (x : List ℕ). speechOf n (speechHeard x) d .left) ec;
-      }
+      record { result = both-are .0 ∙ picked-told (h .good) good bad (h .bits) d; left = both-are .1 ∙ picked-left (h .good) good bad (h .bits) d }
 
   rest : (b : Bool) (bits : List ℕ) → pick b bits (take 184 d) ++ drop 184 d ≡ pick b (bits ++ drop 184 d) d
   rest true bits = refl
   rest false bits = take-append-drop 184 d
 
   pub facch-brought : Meets (controlReceived c (take 184 d)) r after
-      → Meets (byKind Facch n (heldBlock held n) d) (asTaken true n r) (after ++ drop 184 d)
+      → Meets (byKind Facch n c d) (asTaken true n r) (after ++ drop 184 d)
   unfolding controlReceived byKind facchOf
   facch-brought said =
       let h : Hearing = blockHeard controlG 0 184 c in
-      let good : ℕ → Taken = λ k. taken.Facch (record { 0 = n }) k in
+      let good : Taken = taken.Facch (record { 0 = n }) (h .count) in
       let bad : Taken = taken.Bad (record { 0 = n }) (h .count) in
       let l : length (take 184 d) ≡ 184 = length-take-le 184 d (omega (arith, ld)) in
       let both-are = heard-as 456 184 c (take 184 d) (given (take 184 d) l) h r after said true n (h .good) refl in
       record {
-        result = both-are .0 ∙ picked-told (h .good) (good (h .count)) bad (h .bits ++ drop 184 d) d ∙ ap (λ (x : List ℕ). facchOf n (blockHeard controlG 0 184 x) d .result) ec;
+        result = both-are .0 ∙ picked-told (h .good) good bad (h .bits ++ drop 184 d) d;
         left =
             ap (λ (x : List ℕ). x ++ drop 184 d) (both-are .1)
             ∙ rest (h .good) (h .bits)
-            ∙ picked-left (h .good) (good (h .count)) bad (h .bits ++ drop 184 d) d
-            ∙ ap (λ (x : List ℕ). facchOf n (blockHeard controlG 0 184 x) d .left) ec;
+            ∙ picked-left (h .good) good bad (h .bits ++ drop 184 d) d;
       }
 
+-- ---- what a good block brings
+pub facch-good : (n : ℕ) (h : Hearing) (d : List ℕ) → h .good ≡ true → facchOf n h d ≡ record { result = taken.Facch (record { 0 = n }) (h .count); left = h .bits ++ drop 184 d }
+unfolding facchOf goodOrBad
+facch-good n h d e = rw e refl
+
+pub speech-good : (n : ℕ) (h : Hearing) (d : List ℕ) → h .good ≡ true → speechOf n h d ≡ record { result = taken.Speech (record { 0 = n }) (h .count); left = h .bits }
+unfolding speechOf goodOrBad
+speech-good n h d e = rw e refl
+
+-- ---- 02, M-101: the rule for four ones, by the two verdicts
+module _ (n : ℕ) (control speech : Hearing) (d : List ℕ) where
+  pub rule-facch : control .good ≡ true → tied n control speech d ≡ facchOf n control d
+  unfolding tied
+  rule-facch e = rw e refl
+
+  pub rule-speech : control .good ≡ false → speech .good ≡ true → tied n control speech d ≡ speechOf n speech d
+  unfolding tied
+  rule-speech e e' = rw (e, e') refl
+
+  pub rule-neither : control .good ≡ false → speech .good ≡ false → tied n control speech d ≡ record { result = taken.Tie (record { 0 = n }); left = d }
+  unfolding tied
+  rule-neither e e' = rw (e, e') refl
+
+-- what brings a good block
+unfoldable pub isGood : Taken → Bool
+isGood taken.Waiting = false
+isGood (taken.Speech n k) = true
+isGood (taken.Facch n k) = true
+isGood (taken.Refused r) = false
+isGood (taken.Bad n k) = false
+isGood (taken.Tie n) = false
+
+judged-good : (b : Bool) (t u : Taken) (x y : List ℕ) → isGood t ≡ true → isGood u ≡ false → isGood (goodOrBad b t x u y .result) ≡ b
+unfolding goodOrBad
+judged-good true t u x y e f = e
+judged-good false t u x y e f = f
+
+bad-leaves : (b : Bool) (t u : Taken) (x y : List ℕ) → b ≡ false → goodOrBad b t x u y .left ≡ y
+bad-leaves b t u x y e = sym (picked-left b t u x y) ∙ ap (λ (z : Bool). pick z x y) e
+
+-- the block is received as FACCH, and where that is bad, as speech
+module _ (n : ℕ) (c d : List ℕ) where
+  abbrev control : Hearing
+  control = blockHeard controlG 0 184 c
+
+  abbrev speech : Hearing
+  speech = speechHeard c
+
+  facch-verdict : isGood (byKind Facch n c d .result) ≡ control .good
+  unfolding byKind facchOf isGood
+  facch-verdict = judged-good (control .good) (taken.Facch (record { 0 = n }) (control .count)) (taken.Bad (record { 0 = n }) (control .count)) (control .bits ++ drop 184 d) d refl refl
+
+  speech-verdict : isGood (byKind Speech n c d .result) ≡ speech .good
+  unfolding byKind speechOf isGood
+  speech-verdict = judged-good (speech .good) (taken.Speech (record { 0 = n }) (speech .count)) (taken.Bad (record { 0 = n }) (speech .count)) (speech .bits) d refl refl
+
+  module _ (r : Taken) (after : List ℕ) (as-facch : Meets (byKind Facch n c d) r after) where
+    control-is : control .good ≡ isGood r
+    control-is = sym facch-verdict ∙ sym (ap isGood (as-facch .result))
+
+    pub tied-facch : isGood r ≡ true → Meets (byKind Neither n c d) r after
+    unfolding byKind
+    tied-facch e = subst (λ (a : Answer Taken). Meets a r after) (sym (rule-facch n control speech d (control-is ∙ e))) as-facch
+
+    pub tied-left : isGood r ≡ false → after ≡ d
+    unfolding byKind facchOf
+    tied-left e =
+        as-facch .left
+        ∙ bad-leaves (control .good) (taken.Facch (record { 0 = n }) (control .count)) (taken.Bad (record { 0 = n }) (control .count)) (control .bits ++ drop 184 d) d (control-is ∙ e)
+
+    module _ (bad : isGood r ≡ false) (s : Taken) (last : List ℕ) (then : Meets (byKind Speech n c after) s last) where
+      as-speech : Meets (byKind Speech n c d) s last
+      as-speech = subst (λ (x : List ℕ). Meets (byKind Speech n c x) s last) (tied-left bad) then
+
+      speech-is : speech .good ≡ isGood s
+      speech-is = sym speech-verdict ∙ sym (ap isGood (as-speech .result))
+
+      pub tied-speech : isGood s ≡ true → Meets (byKind Neither n c d) s last
+      unfolding byKind
+      tied-speech e = subst (λ (a : Answer Taken). Meets a s last) (sym (rule-speech n control speech d (control-is ∙ bad) (speech-is ∙ e))) as-speech
+
+      speech-left : isGood s ≡ false → last ≡ d
+      unfolding byKind speechOf
+      speech-left e =
+          as-speech .left
+          ∙ bad-leaves (speech .good) (taken.Speech (record { 0 = n }) (speech .count)) (taken.Bad (record { 0 = n }) (speech .count)) (speech .bits) d (speech-is ∙ e)
+
+      pub tied-neither : isGood s ≡ false → Meets (byKind Neither n c d) (taken.Tie (record { 0 = n })) last
+      unfolding byKind
+      tied-neither e =
+          subst (λ (a : Answer Taken). Meets a (taken.Tie (record { 0 = n })) last) (sym (rule-neither n control speech d (control-is ∙ bad) (speech-is ∙ e)))
+          (record { result = refl; left = speech-left e })
+
 -- ---- by the kind that the flags say, and by the block that the burst ends
-pub by-kind : (held d : List ℕ) (n : ℕ) (k k' : Kind) → k ≡ k' → k ≡ vote (heldFlags held n) → byKind k' n (heldBlock held n) d ≡ blockAnswer held n d
+pub by-kind : (held d c : List ℕ) (n flags : ℕ) (k k' : Kind) → c ≡ heldBlock held n → flags ≡ heldFlags held n → k ≡ vote flags → k ≡ k'
+    → (r : Taken) (after : List ℕ) → Meets (byKind k' n c d) r after → Meets (blockAnswer held n d) r after
 unfolding blockAnswer
-by-kind held d n k k' e ek = ap (λ (x : Kind). byKind x n (heldBlock held n) d) (sym e ∙ ek)
+by-kind held d c n flags k k' ec ef ek e r after =
+    subst (λ (a : Answer Taken). Meets a r after) (ap₂ (λ (x : Kind) (y : List ℕ). byKind x n y d) (sym e ∙ ek ∙ ap vote ef) ec)
 
 pub at-ending : (held d : List ℕ) (b : ℕ) (x y : Ending) → x ≡ y → x ≡ ended b → atEnding y held d ≡ burstAnswer held b d
 unfolding burstAnswer

@@ -24,18 +24,17 @@ use Rattle.burst.specs.declared.numbers.BlockNumber.{BlockNumber}
 use Rattle.burst.specs.declared.numbers.Ending.{Ending}
 use Rattle.burst.specs.laws.Held.{held-ones}
 use Rattle.burst.specs.laws.Numbers.{ended-block, ended-none}
-use Rattle.parity.specs.Division.{controlG, speechG}
+use Rattle.parity.specs.Division.{controlG}
 use Rattle.coder.specs.Received.{Hearing, blockHeard, speechHeard}
-use Rattle.coder.specs.Says.{blockWord, speechD, speechWord}
-use Rattle.coder.specs.laws.Blocks.{control-long}
-use Rattle.coder.specs.laws.Says.{told-done, block-heard, speech-heard, decodes}
+use Rattle.coder.specs.Says.{SpeechDecodes}
+use Rattle.coder.specs.laws.Says.{told-done, control-decodes, speech-decodes}
 use Rattle.chart.specs.Totals.{more, counted}
 use Rattle.chart.specs.laws.Totals.{adds-says}
 use Rattle.chart.specs.Answers.{values, ofTaken}
-use Rattle.stream.specs.Receiving.{freshReceiver, takeJudged, takeTold, vote, goodOrBad, speechOf, facchOf, byKind, blockAnswer, atEnding, burstAnswer, takenNext, afterTaking, takeAnswer}
-use Rattle.stream.specs.Says.{SentReturns, FreshSays, Sendable, SendSays, Endable, EndSays, BlockSays, TakeReturns, Takeable, refuses, TakeSays}
+use Rattle.stream.specs.Receiving.{freshReceiver, takeJudged, takeTold, vote, goodOrBad, speechOf, facchOf, tied, byKind, blockAnswer, atEnding, burstAnswer, takenNext, afterTaking, takeAnswer}
+use Rattle.stream.specs.Says.{SentReturns, FreshSays, Sendable, SendSays, Endable, EndSays, AsSpeech, AsFacch, AsBad, AsTie, BlockSays, TakeReturns, Takeable, refuses, TakeSays}
 use Rattle.stream.specs.Sending.{freshSender, isBlock, sendJudged, sendTold, sentBursts, sentNext, sendAnswer, endJudged, endTold, endBursts, endNext, endAnswer, afterwards}
-use Rattle.stream.specs.laws.Receiving.{take-able, takes-on}
+use Rattle.stream.specs.laws.Receiving.{vote-few, vote-many, vote-four, take-able, takes-on}
 use Rattle.stream.specs.laws.Sending.{send-able, sends-on, end-able, ends-on}
 use Rattle.chart.specs.declared.Kind.{Kind}
 use Rattle.chart.specs.declared.Kind.the-variants as kind
@@ -107,40 +106,40 @@ module _ (s : Sender) (e : List ℕ) where
 -- ---- a block, by its kind: what an answer returns is known of byKind's
 module _ (flags n : ℕ) (c d : List ℕ) (returns : Values → List ℕ → Type 0)
     (says : (t : Taken) (left : List ℕ) → byKind (vote flags) n c d ≡ record { result = t; left = left } → returns (ofTaken t) left) where
-  by-tests : (few many : Bool) → ltb (count.ones flags) 4 ≡ few → ltb 4 (count.ones flags) ≡ many → vote flags ≡ pick few kind.Speech (pick many kind.Facch kind.Neither)
-  unfolding vote
-  by-tests few many ef em = ap₂ (λ (x y : Bool). pick x kind.Speech (pick y kind.Facch kind.Neither)) ef em
+  abbrev speech : Hearing
+  speech = speechHeard c
 
-  few : count.ones flags < 4 → vote flags ≡ kind.Speech
-  few h = by-tests true false (lt-ltb (count.ones flags) 4 h) (le-ltb 4 (count.ones flags) (omega (arith, h)))
+  abbrev control : Hearing
+  control = blockHeard controlG 0 184 c
 
-  many : 4 < count.ones flags → vote flags ≡ kind.Facch
-  many h = by-tests false true (le-ltb (count.ones flags) 4 (omega (arith, h))) (lt-ltb 4 (count.ones flags) h)
+  abbrev of-kind : Kind → Answer Taken
+  of-kind k = byKind k n c d
 
-  as-many : count.ones flags ≡ 4 → vote flags ≡ kind.Neither
-  as-many h = by-tests false false (le-ltb (count.ones flags) 4 (omega (arith, h))) (le-ltb 4 (count.ones flags) (omega (arith, h)))
+  abbrev number : BlockNumber
+  number = record { 0 = n }
 
   pub block-says : (m : ℕ) → count.ones flags ≡ m → BlockSays returns m n c d
-  unfolding byKind speechOf facchOf goodOrBad
+  unfolding byKind tied speechOf facchOf goodOrBad
   block-says m em =
-      let of-kind : Kind → Answer Taken = λ (k : Kind). byKind k n c d in
-      let speech : Hearing = speechHeard c in
-      let facch : Hearing = blockHeard controlG 0 184 c in
-      let number : BlockNumber = record { 0 = n } in
       record {
-        tie = λ h. says (taken.Tie number) d (ap of-kind (as-many (em ∙ h)));
         speech = λ h.
-            let k = few (omega (arith, em, h)) in
-            decodes speech (take 378 c) 189 speechG speechWord (λ u. speechD u ++ drop 378 c) (speech-heard c)
-            (λ x bits. returns (values None kind.Speech (Some n) (Some x)) bits) (λ x. returns (values (Some 8) kind.Neither (Some n) (Some x)) d)
+            let k = vote-few flags (omega (arith, em, h)) in
+            speech-decodes c (AsSpeech returns n) (AsBad returns n d)
             (λ good. says (taken.Speech number (speech .count)) (speech .bits) (ap of-kind k ∙ rw good refl))
             (λ bad. says (taken.Bad number (speech .count)) d (ap of-kind k ∙ rw bad refl));
         facch = λ h.
-            let k = many (omega (arith, em, h)) in
-            decodes facch c 228 controlG (blockWord controlG 0 184) (take 184) (block-heard controlG 0 184 228 c (omega (arith, control-long)) (lit≤ tt))
-            (λ x bits. returns (values None kind.Facch (Some n) (Some x)) (bits ++ drop 184 d)) (λ x. returns (values (Some 8) kind.Neither (Some n) (Some x)) d)
-            (λ good. says (taken.Facch number (facch .count)) (facch .bits ++ drop 184 d) (ap of-kind k ∙ rw good refl))
-            (λ bad. says (taken.Bad number (facch .count)) d (ap of-kind k ∙ rw bad refl));
+            let k = vote-many flags (omega (arith, em, h)) in
+            control-decodes c (AsFacch returns n d) (AsBad returns n d)
+            (λ good. says (taken.Facch number (control .count)) (control .bits ++ drop 184 d) (ap of-kind k ∙ rw good refl))
+            (λ bad. says (taken.Bad number (control .count)) d (ap of-kind k ∙ rw bad refl));
+        tie = λ h.
+            let k = vote-four flags (em ∙ h) in
+            control-decodes c (AsFacch returns n d) (λ x. SpeechDecodes c (AsSpeech returns n) (AsTie returns n d))
+            (λ good. says (taken.Facch number (control .count)) (control .bits ++ drop 184 d) (ap of-kind k ∙ rw good refl))
+            (λ bad.
+            speech-decodes c (AsSpeech returns n) (AsTie returns n d)
+            (λ good. says (taken.Speech number (speech .count)) (speech .bits) (ap of-kind k ∙ rw (bad, good) refl))
+            (λ worse. says (taken.Tie number) d (ap of-kind k ∙ rw (bad, worse) refl)));
       }
 
 -- ---- take
