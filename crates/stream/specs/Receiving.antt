@@ -55,8 +55,8 @@ speechOf n h d = goodOrBad (h .good) (taken.Speech (record { 0 = n }) (h .count)
 unfoldable pub facchOf : ℕ → Hearing → List ℕ → Answer Taken
 facchOf n h d = goodOrBad (h .good) (taken.Facch (record { 0 = n }) (h .count)) (h .bits ++ drop 184 d) (taken.Bad (record { 0 = n }) (h .count)) d
 
--- 02, M-101: with four ones block n is FACCH where its parity as control is good; else speech where its parity as speech is; else 9, and the buffer
--- stands as before
+-- 02, M-101, in the place of 01's "4 gives refusal 9": with four ones block n is FACCH where its parity as control is good; else speech where its parity
+-- as speech is; else refusal 9, and the buffer stands as before
 unfoldable pub tied : ℕ → Hearing → Hearing → List ℕ → Answer Taken
 tied n control speech d =
     pick (control .good) (facchOf n control d) (pick (speech .good) (speechOf n speech d) (record { result = taken.Tie (record { 0 = n }); left = d }))

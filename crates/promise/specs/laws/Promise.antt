@@ -11,7 +11,7 @@ use borrow.Author.Tests.{eqb-true}
 use lib.Count.{ones}
 use Rattle.answers.specs.Answers.{Answer, Meets}
 use Rattle.bits.specs.Bits.{Bits, pick, tab, value, total}
-use Rattle.bits.specs.laws.Cases.{lt-or-le}
+use Rattle.bits.specs.laws.Cases.{lt-or-le, false-true}
 use Rattle.bits.specs.laws.Tab.{at-tab, length-tab, is-tab, tab-same, bits-tab}
 use Rattle.bits.specs.laws.Total.{total-same, total-add}
 use Rattle.burst.specs.Numbers.{firstBurst}
@@ -152,9 +152,6 @@ module _ (d : List ℕ) (n k : ℕ) (c out : List ℕ) (a : Answer Received) whe
   comes-back m = by-kind (isFacch (length d)) m
 
 -- ---- what was sent stands at block n's places
-false-true : false ≡ true → ⊥
-false-true e = let z : _≡_ {A = ℕ} 0 1 = cc in omega (arith, z)
-
 is-speech : (d : List ℕ) → isBlock (length d) ≡ true → isFacch (length d) ≡ false → length d ≡ 260
 is-speech d block e = by-test (eqb (length d) 260) refl
   where

@@ -10,7 +10,7 @@ use lib.Dec.{eqb, leb}
 use lib.ListN.{length}
 use Rattle.bits.specs.Bits.{both, allBits}
 use borrow.Author.Tests.{eqb-true, eqb-false, leb-true, leb-false}
-use Rattle.bits.specs.laws.Cases.{lt-or-le}
+use Rattle.bits.specs.laws.Cases.{lt-or-le, false-true}
 use Rattle.answers.specs.Answers.{Answer, numberOf, orNone, ofTold}
 use Rattle.answers.specs.declared.Refusal.{Refusal}
 use Rattle.answers.specs.declared.Told.{Told}
@@ -39,13 +39,16 @@ abbrev number : Taken → ℕ
 number t = orNone (ofTaken t .number)
 
 -- ---- a call that is refused has another
+abbrev of-told : Told → ℕ
+of-told t = orNone (ofTold t .number)
+
 judged-other : (l b f t : Bool) (r : Refusal) → takeJudged l b f t ≡ told.Refused r → numberOf r ≡ 9 → ⊥
 unfolding takeJudged
-judged-other false b f t r e z = omega (arith, ap (λ (x : Told). orNone (ofTold x .number)) e, z)
-judged-other true false f t r e z = omega (arith, ap (λ (x : Told). orNone (ofTold x .number)) e, z)
-judged-other true true true t r e z = omega (arith, ap (λ (x : Told). orNone (ofTold x .number)) e, z)
-judged-other true true false false r e z = omega (arith, ap (λ (x : Told). orNone (ofTold x .number)) e, z)
-judged-other true true false true r e z = omega (arith, ap (λ (x : Told). orNone (ofTold x .number)) e, z)
+judged-other false b f t r e z = omega (arith, ap of-told e, z)
+judged-other true false f t r e z = omega (arith, ap of-told e, z)
+judged-other true true true t r e z = omega (arith, ap of-told e, z)
+judged-other true true false false r e z = omega (arith, ap of-told e, z)
+judged-other true true false true r e z = omega (arith, ap of-told e, z)
 
 -- ---- a block, by its kind and its verdicts
 record BothBad (flags : ℕ) (c : List ℕ) : Type 0 where
@@ -95,9 +98,6 @@ module _ (n : ℕ) (c d : List ℕ) where
 module _ (s : Receiver) (b : ℕ) (e d : List ℕ) (takes : Takeable s b e d) where
   abbrev held : List ℕ
   held = kept (s .held) b e
-
-  false-true : false ≡ true → ⊥
-  false-true x = let z : _≡_ {A = ℕ} 0 1 = cc in omega (arith, z)
 
   ends-block : (n : ℕ) → b ≡ 4 * n + 7 → number (burstAnswer held b d .result) ≡ 9 → Nine s b e d
   unfolding burstAnswer atEnding blockAnswer
