@@ -12,8 +12,9 @@ use Rattle.burst.specs.Numbers.{firstBurst}
 use Rattle.places.specs.Places.{eAt, placeAt, hl, hu}
 use Rattle.trellis.specs.Nearest.{disagreements}
 use Rattle.chart.specs.Answers.{values, ofTaken}
-use Rattle.stream.specs.Receiving.{vote, byKind, freshReceiver, takeAnswer}
-use Rattle.stream.specs.Says.{BlockSays}
+use Rattle.kinds.specs.Kinds.{vote, byKind}
+use Rattle.stream.specs.Receiving.{freshReceiver, takeAnswer}
+use Rattle.kinds.specs.Says.{BlockSays}
 use Rattle.stream.specs.Sending.{isFacch, isBlock, freshSender, sendAnswer, endAnswer}
 use Rattle.chart.specs.declared.Taken.{Taken}
 use Rattle.chart.specs.declared.Taken.the-variants.{Waiting}

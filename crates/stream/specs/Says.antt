@@ -1,18 +1,17 @@
 -- What send, end and take answer, in 01's own numbers and values, for every value of a stream: the first refusal that applies, with nothing
 -- besides it and all as before; what a call that is done returns, writes and hands back. Proved in laws/Says.
 use mathlib.Core.Bool.{true, false}
-use mathlib.Core.List.{List, _++_}
+use mathlib.Core.List.{List}
 use mathlib.Core.Path.{_≡_}
 use Prim.Native.Nat.{ℕ, _+_, _*_, _≤_, _<_}
-use lib.ListN.{length, drop}
+use lib.ListN.{length}
 use Rattle.bits.specs.Bits.{Bits, total}
-use Rattle.parity.specs.Division.{controlG}
 use Rattle.answers.specs.Answers.{Answer, returned, ofTold}
 use Rattle.answers.specs.declared.Maybe.{Maybe}
 use Rattle.answers.specs.declared.Maybe.the-variants.{None, Some}
 use Rattle.burst.specs.Held.{heldFlagAt, heldBlock}
 use Rattle.burst.specs.Ring.{kept}
-use Rattle.coder.specs.Says.{BlockDecodes, SpeechDecodes}
+use Rattle.kinds.specs.Says.{BlockSays, BothBad}
 use Rattle.chart.specs.Answers.{values, ofTaken}
 use Rattle.stream.specs.Receiving.{freshReceiver, takenNext, takeAnswer}
 use Rattle.stream.specs.Sending.{freshSender, isBlock, sentBursts, sentNext, sendAnswer, endBursts, endNext, endAnswer}
@@ -20,7 +19,7 @@ use Rattle.chart.specs.Says.{said}
 use Rattle.chart.specs.Totals.{four, more}
 use Rattle.chart.specs.declared.Taken.{Taken}
 use Rattle.chart.specs.declared.Taken.the-variants.{Waiting}
-use Rattle.chart.specs.declared.Kind.the-variants.{Speech, Facch, Neither}
+use Rattle.chart.specs.declared.Kind.the-variants.{Neither}
 use Rattle.chart.specs.declared.Values.{Values}
 use Rattle.stream.specs.declared.receiver.Received.{Received}
 use Rattle.stream.specs.declared.receiver.Receiver.{Receiver}
@@ -71,27 +70,6 @@ pub record EndSays (s : Sender) (e : List ℕ) : Type 0 where
   pub counts : (endNext s .sent .0 ≡ s .sent .0) × (endNext s .ended ≡ true)
   pub only : ofTold (endAnswer s e .result .told) ≡ returned None None → Endable s e
 
--- ---- a block, by how many of its eight flags are 1, of its coded bits c
--- good: no number, the kind, n, the count of THE nearest block, and its bits: 260 of speech, 184 of FACCH
-abbrev pub AsSpeech : (Values → List ℕ → Type 0) → ℕ → ℕ → List ℕ → Type 0
-AsSpeech returns n k bits = returns (values None Speech (Some n) (Some k)) bits
-
-abbrev pub AsFacch : (Values → List ℕ → Type 0) → ℕ → List ℕ → ℕ → List ℕ → Type 0
-AsFacch returns n d k bits = returns (values None Facch (Some n) (Some k)) (bits ++ drop 184 d)
-
--- bad: 8 with n and the count, or 9 with n; both leave the buffer
-abbrev pub AsBad : (Values → List ℕ → Type 0) → ℕ → List ℕ → ℕ → Type 0
-AsBad returns n d k = returns (values (Some 8) Neither (Some n) (Some k)) d
-
-abbrev pub AsTie : (Values → List ℕ → Type 0) → ℕ → List ℕ → ℕ → Type 0
-AsTie returns n d k = returns (values (Some 9) Neither (Some n) None) d
-
--- 01: fewer than four mean speech, more FACCH. 02, M-101: with four the block is decoded as FACCH, and where that is bad, as speech
-pub record BlockSays (returns : Values → List ℕ → Type 0) (flags n : ℕ) (c d : List ℕ) : Type 0 where
-  pub speech : flags < 4 → SpeechDecodes c (AsSpeech returns n) (AsBad returns n d)
-  pub facch : 4 < flags → BlockDecodes controlG 0 184 228 c (AsFacch returns n d) (AsBad returns n d)
-  pub tie : flags ≡ 4 → BlockDecodes controlG 0 184 228 c (AsFacch returns n d) (λ k. SpeechDecodes c (AsSpeech returns n) (AsTie returns n d))
-
 -- ---- take: the number and the values; what the buffer then holds; the next stream
 abbrev pub TakeReturns : Answer Received → Values → List ℕ → Receiver → Type 0
 TakeReturns a v left next = (ofTaken (a .result .told) ≡ v) × (a .left ≡ left) × (a .result .next ≡ next)
@@ -123,16 +101,11 @@ pub record TakeSays (s : Receiver) (b : ℕ) (e d : List ℕ) : Type 0 where
 
 -- ---- 02, M-101: 9 is given in no other case than this: the burst is taken and ends block n, four of whose flags are 1, and its coded bits are found bad
 -- both as FACCH and as speech
-abbrev pub FoundBad : ((ℕ → List ℕ → Type 0) → (ℕ → Type 0) → Type 0) → Type 0
-FoundBad decodes = decodes (λ k bits. ⊥) (λ k. Unit {0})
-
 pub record Nine (s : Receiver) (b : ℕ) (e d : List ℕ) : Type 0 where
   pub takes : Takeable s b e d
   pub n : ℕ
   pub ends : b ≡ 4 * n + 7
-  pub four : total 8 (heldFlagAt (kept (s .held) b e) n) ≡ 4
-  pub control : FoundBad (BlockDecodes controlG 0 184 228 (heldBlock (kept (s .held) b e) n))
-  pub speech : FoundBad (SpeechDecodes (heldBlock (kept (s .held) b e) n))
+  pub bad : BothBad (total 8 (heldFlagAt (kept (s .held) b e) n)) (heldBlock (kept (s .held) b e) n)
 
 abbrev pub NineOnly : Type 0
 NineOnly = (s : Receiver) (b : ℕ) (e d : List ℕ) → ofTaken (takeAnswer s b e d .result .told) .number ≡ Some 9 → Nine s b e d

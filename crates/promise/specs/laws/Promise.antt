@@ -25,9 +25,9 @@ use Rattle.coder.specs.laws.Hearings.{control-hearing, speech-hearing}
 use Rattle.parity.specs.Division.{controlG}
 use Rattle.trellis.specs.Nearest.{differ, disagreements}
 use Rattle.chart.specs.Answers.{ofTaken}
-use Rattle.stream.specs.Receiving.{vote, byKind, speechOf, facchOf, goodOrBad}
-use Rattle.stream.specs.laws.Receiving.{vote-few, vote-many, vote-four}
-use Rattle.stream.specs.laws.Says.{block-says}
+use Rattle.kinds.specs.Kinds.{vote, byKind, speechOf, facchOf, goodOrBad}
+use Rattle.kinds.specs.laws.Kinds.{vote-few, vote-many, vote-four}
+use Rattle.kinds.specs.laws.Says.{block-says}
 use Rattle.stream.specs.Sending.{isFacch, isBlock, blockOf, flagOf, freshSender}
 use Rattle.chart.specs.declared.Taken.{Taken}
 use Rattle.chart.specs.declared.Taken.the-variants.{Speech, Facch}

@@ -22,7 +22,8 @@ use Rattle.burst.specs.laws.Numbers.{ended-block, ended-none}
 use Rattle.places.specs.laws.Places.{every-bit}
 use Rattle.burst.specs.laws.Ring.{kept-long, kept-same, kept-other}
 use Rattle.burst.specs.declared.numbers.Ending.{Ending}
-use Rattle.stream.specs.Receiving.{vote, byKind, blockAnswer, atEnding, burstAnswer, freshReceiver, takenNext, takeAnswer}
+use Rattle.kinds.specs.Kinds.{vote, byKind}
+use Rattle.stream.specs.Receiving.{blockAnswer, atEnding, burstAnswer, freshReceiver, takenNext, takeAnswer}
 use Rattle.chart.specs.declared.Taken.{Taken}
 use Rattle.chart.specs.declared.Taken.the-variants.{Waiting}
 use Rattle.stream.specs.declared.receiver.Received.{Received}

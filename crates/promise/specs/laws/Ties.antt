@@ -18,9 +18,9 @@ use Rattle.chart.specs.declared.Kind.{Kind}
 use Rattle.chart.specs.declared.Kind.the-variants as kind
 use Rattle.chart.specs.declared.Taken.{Taken}
 use Rattle.chart.specs.declared.Taken.the-variants.{Speech, Facch}
-use Rattle.stream.specs.Receiving.{tied, byKind}
+use Rattle.kinds.specs.Kinds.{tied, byKind}
 use Rattle.stream.specs.Sending.{isFacch}
-use Rattle.stream.specs.laws.Receiving.{facch-good, speech-good, rule-facch, rule-speech}
+use Rattle.kinds.specs.laws.Kinds.{facch-good, speech-good, rule-facch, rule-speech}
 use Rattle.promise.specs.Promise.{Lesson, made, Arrives, takenAt, blockBits, bitsAltered, flagsAltered, kindOf, bitsOut, Brings, answerFor}
 use Rattle.promise.specs.Ties.{FacchTies, SpeechTies}
 use Rattle.promise.specs.laws.Promise.{vote-ties, facch-heard, speech-heard, stream-promise}

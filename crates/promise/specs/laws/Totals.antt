@@ -33,7 +33,8 @@ use Rattle.chart.specs.declared.Taken.{Taken}
 use Rattle.chart.specs.declared.Taken.the-variants as taken
 use Rattle.chart.specs.declared.totals.Totals.{Totals}
 use Rattle.stream.specs.Calls.{TakeCall, receiverAnswer}
-use Rattle.stream.specs.Receiving.{freshReceiver, takeTold, vote, goodOrBad, speechOf, facchOf, tied, byKind, blockAnswer, atEnding, burstAnswer, takenNext, afterTaking, takeAnswer}
+use Rattle.kinds.specs.Kinds.{vote, goodOrBad, speechOf, facchOf, tied, byKind}
+use Rattle.stream.specs.Receiving.{freshReceiver, takeTold, blockAnswer, atEnding, burstAnswer, takenNext, afterTaking, takeAnswer}
 use Rattle.stream.specs.Says.{Takeable}
 use Rattle.stream.specs.declared.receiver.Received.{Received}
 use Rattle.stream.specs.declared.receiver.Receiver.{Receiver}

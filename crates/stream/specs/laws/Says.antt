@@ -4,7 +4,6 @@ use mathlib.Core.List.{List, _++_}
 use mathlib.Core.Path.{_≡_, refl, sym, ap, ap₂, _∙_}
 use Prim.Native.Nat.{ℕ, _+_, _*_, _≤_, _<_}
 use native.Mathlib.Omega.{arith}
-use lib.Count as count
 use lib.Dec.{eqb, leb, ltb, lit≤}
 use lib.ListN.{length, take, drop}
 use borrow.Author.Tests.{eqb-true, eq-eqb, ne-eqb, le-leb, lt-leb, lt-ltb, le-ltb}
@@ -20,21 +19,20 @@ use Rattle.answers.specs.declared.Told.the-variants.{Done, Refused}
 use Rattle.burst.specs.Held.{heldFlagAt, heldFlags, heldBlock}
 use Rattle.burst.specs.Numbers.{ended}
 use Rattle.burst.specs.Ring.{kept}
-use Rattle.burst.specs.declared.numbers.BlockNumber.{BlockNumber}
 use Rattle.burst.specs.declared.numbers.Ending.{Ending}
 use Rattle.burst.specs.laws.Held.{held-ones}
 use Rattle.burst.specs.laws.Numbers.{ended-block, ended-none}
-use Rattle.parity.specs.Division.{controlG}
-use Rattle.coder.specs.Received.{Hearing, blockHeard, speechHeard}
-use Rattle.coder.specs.Says.{SpeechDecodes}
-use Rattle.coder.specs.laws.Says.{told-done, control-decodes, speech-decodes}
+use Rattle.coder.specs.laws.Says.{told-done}
+use Rattle.kinds.specs.Kinds.{vote, byKind}
+use Rattle.kinds.specs.Says.{BlockSays}
+use Rattle.kinds.specs.laws.Says.{block-says}
 use Rattle.chart.specs.Totals.{more, counted}
 use Rattle.chart.specs.laws.Totals.{adds-says}
 use Rattle.chart.specs.Answers.{values, ofTaken}
-use Rattle.stream.specs.Receiving.{freshReceiver, takeJudged, takeTold, vote, goodOrBad, speechOf, facchOf, tied, byKind, blockAnswer, atEnding, burstAnswer, takenNext, afterTaking, takeAnswer}
-use Rattle.stream.specs.Says.{SentReturns, FreshSays, Sendable, SendSays, Endable, EndSays, AsSpeech, AsFacch, AsBad, AsTie, BlockSays, TakeReturns, Takeable, refuses, TakeSays}
+use Rattle.stream.specs.Receiving.{freshReceiver, takeJudged, takeTold, blockAnswer, atEnding, burstAnswer, takenNext, afterTaking, takeAnswer}
+use Rattle.stream.specs.Says.{SentReturns, FreshSays, Sendable, SendSays, Endable, EndSays, TakeReturns, Takeable, refuses, TakeSays}
 use Rattle.stream.specs.Sending.{freshSender, isBlock, sendJudged, sendTold, sentBursts, sentNext, sendAnswer, endJudged, endTold, endBursts, endNext, endAnswer, afterwards}
-use Rattle.stream.specs.laws.Receiving.{vote-few, vote-many, vote-four, take-able, takes-on}
+use Rattle.stream.specs.laws.Receiving.{take-able, takes-on}
 use Rattle.stream.specs.laws.Sending.{send-able, sends-on, end-able, ends-on}
 use Rattle.chart.specs.declared.Kind.{Kind}
 use Rattle.chart.specs.declared.Kind.the-variants as kind
@@ -102,45 +100,6 @@ module _ (s : Sender) (e : List ℕ) where
     counts = (refl, refl);
     only = λ f. end-able s e (endTold s e) refl (sym end-told ∙ told-done (endAnswer s e .result .told) f);
   }
-
--- ---- a block, by its kind: what an answer returns is known of byKind's
-module _ (flags n : ℕ) (c d : List ℕ) (returns : Values → List ℕ → Type 0)
-    (says : (t : Taken) (left : List ℕ) → byKind (vote flags) n c d ≡ record { result = t; left = left } → returns (ofTaken t) left) where
-  abbrev speech : Hearing
-  speech = speechHeard c
-
-  abbrev control : Hearing
-  control = blockHeard controlG 0 184 c
-
-  abbrev of-kind : Kind → Answer Taken
-  of-kind k = byKind k n c d
-
-  abbrev number : BlockNumber
-  number = record { 0 = n }
-
-  pub block-says : (m : ℕ) → count.ones flags ≡ m → BlockSays returns m n c d
-  unfolding byKind tied speechOf facchOf goodOrBad
-  block-says m em =
-      record {
-        speech = λ h.
-            let k = vote-few flags (omega (arith, em, h)) in
-            speech-decodes c (AsSpeech returns n) (AsBad returns n d)
-            (λ good. says (taken.Speech number (speech .count)) (speech .bits) (ap of-kind k ∙ rw good refl))
-            (λ bad. says (taken.Bad number (speech .count)) d (ap of-kind k ∙ rw bad refl));
-        facch = λ h.
-            let k = vote-many flags (omega (arith, em, h)) in
-            control-decodes c (AsFacch returns n d) (AsBad returns n d)
-            (λ good. says (taken.Facch number (control .count)) (control .bits ++ drop 184 d) (ap of-kind k ∙ rw good refl))
-            (λ bad. says (taken.Bad number (control .count)) d (ap of-kind k ∙ rw bad refl));
-        tie = λ h.
-            let k = vote-four flags (em ∙ h) in
-            control-decodes c (AsFacch returns n d) (λ x. SpeechDecodes c (AsSpeech returns n) (AsTie returns n d))
-            (λ good. says (taken.Facch number (control .count)) (control .bits ++ drop 184 d) (ap of-kind k ∙ rw good refl))
-            (λ bad.
-            speech-decodes c (AsSpeech returns n) (AsTie returns n d)
-            (λ good. says (taken.Speech number (speech .count)) (speech .bits) (ap of-kind k ∙ rw (bad, good) refl))
-            (λ worse. says (taken.Tie number) d (ap of-kind k ∙ rw (bad, worse) refl)));
-      }
 
 -- ---- take
 module _ (s : Receiver) (b : ℕ) (e d : List ℕ) where

@@ -1,9 +1,9 @@
--- `stream::receiver::receive_speech` is right: coder's entry receives the coded bits, and take says what it says.
+-- `kinds::receive_speech` is right: coder's entry receives the coded bits, and take says what it says.
 use mathlib.Core.Path.{_∙_}
-use Rattle.stream.specs.laws.Receiving.{speech-brought}
+use Rattle.kinds.specs.laws.Kinds.{speech-brought}
 use borrow.Author.Needs.{needs}
-use Rattle.stream.proofs.receiver.receive_speech.Statement.{statement}
-use Rattle.stream.proofs.receiver.receive_speech.Tie as tie
+use Rattle.kinds.proofs.receive_speech.Statement.{statement}
+use Rattle.kinds.proofs.receive_speech.Tie as tie
 
 returns : tie.Need-returns
 returns c =

@@ -1,9 +1,9 @@
--- `stream::receiver::receive_tied` is right: what is good as FACCH is brought so; else the buffer is as before, and what is good as speech is brought so.
+-- `kinds::receive_tied` is right: what is good as FACCH is brought so; else the buffer is as before, and what is good as speech is brought so.
 use mathlib.Core.Path.{sym, _∙_}
-use Rattle.stream.specs.laws.Receiving.{tied-facch, tied-speech, tied-neither}
+use Rattle.kinds.specs.laws.Kinds.{tied-facch, tied-speech, tied-neither}
 use borrow.Author.Needs.{needs}
-use Rattle.stream.proofs.receiver.receive_tied.Statement.{statement}
-use Rattle.stream.proofs.receiver.receive_tied.Tie as tie
+use Rattle.kinds.proofs.receive_tied.Statement.{statement}
+use Rattle.kinds.proofs.receive_tied.Tie as tie
 
 returns : tie.Need-returns
 returns c =

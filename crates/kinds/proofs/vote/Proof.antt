@@ -1,8 +1,8 @@
--- `stream::receiver::vote` is right: its two tests are the definition's.
+-- `kinds::vote` is right: its two tests are the definition's.
 use borrow.Author.Tests.{lt-ltb, le-ltb}
-use Rattle.stream.specs.Receiving.{vote}
-use Rattle.stream.proofs.receiver.vote.Statement.{statement}
-use Rattle.stream.proofs.receiver.vote.Tie as tie
+use Rattle.kinds.specs.Kinds.{vote}
+use Rattle.kinds.proofs.vote.Statement.{statement}
+use Rattle.kinds.proofs.vote.Tie as tie
 
 returns : tie.Need-returns
 unfolding vote

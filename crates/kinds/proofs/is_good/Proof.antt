@@ -1,9 +1,9 @@
--- `stream::receiver::is_good` is right: case by case.
+-- `kinds::is_good` is right: case by case.
 use mathlib.Core.Path.{sym, ap}
-use Rattle.stream.specs.laws.Receiving.{isGood}
+use Rattle.kinds.specs.laws.Kinds.{isGood}
 use borrow.Author.Needs.{needs}
-use Rattle.stream.proofs.receiver.is_good.Statement.{statement}
-use Rattle.stream.proofs.receiver.is_good.Tie as tie
+use Rattle.kinds.proofs.is_good.Statement.{statement}
+use Rattle.kinds.proofs.is_good.Tie as tie
 
 returns : tie.Need-returns
 unfolding isGood

@@ -1,11 +1,11 @@
--- `stream::receiver::as_taken` is right: each case of what coder says is one of what take says.
+-- `kinds::as_taken` is right: each case of what coder says is one of what take says.
 use mathlib.Core.Bool.{Bool}
 use mathlib.Core.Path.{sym, ap, ap₂}
 use Rattle.answers.specs.declared.Heard.{Heard}
-use Rattle.stream.specs.laws.Receiving.{asTaken}
+use Rattle.kinds.specs.laws.Kinds.{asTaken}
 use borrow.Author.Needs.{needs}
-use Rattle.stream.proofs.receiver.as_taken.Statement.{statement}
-use Rattle.stream.proofs.receiver.as_taken.Tie as tie
+use Rattle.kinds.proofs.as_taken.Statement.{statement}
+use Rattle.kinds.proofs.as_taken.Tie as tie
 
 returns : tie.Need-returns
 unfolding asTaken

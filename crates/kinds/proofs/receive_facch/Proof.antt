@@ -1,9 +1,9 @@
--- `stream::receiver::receive_facch` is right: coder's entry receives the coded bits, and take says what it says.
+-- `kinds::receive_facch` is right: coder's entry receives the coded bits, and take says what it says.
 use mathlib.Core.Path.{_∙_}
-use Rattle.stream.specs.laws.Receiving.{facch-brought}
+use Rattle.kinds.specs.laws.Kinds.{facch-brought}
 use borrow.Author.Needs.{needs}
-use Rattle.stream.proofs.receiver.receive_facch.Statement.{statement}
-use Rattle.stream.proofs.receiver.receive_facch.Tie as tie
+use Rattle.kinds.proofs.receive_facch.Statement.{statement}
+use Rattle.kinds.proofs.receive_facch.Tie as tie
 
 returns : tie.Need-returns
 returns c =
