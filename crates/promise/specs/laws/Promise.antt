@@ -167,6 +167,15 @@ block-size d v = by-kind (isFacch (length d)) refl
     by-kind true e = control-size d (eqb-true (length d) 184 e) (v .bits)
     by-kind false e = speech-size d (is-speech d (v .kind) e) (v .bits)
 
+-- ---- of FACCH every bit is protected, of speech the first 378
+protected-facch : (d c : List ℕ) → isFacch (length d) ≡ true → protected d c ≡ c
+unfolding protected
+protected-facch d c e = rw e refl
+
+protected-speech : (d c : List ℕ) → isFacch (length d) ≡ false → protected d c ≡ take 378 c
+unfolding protected
+protected-speech d c e = rw e refl
+
 module _ (ds : List (List ℕ)) (lesson : Lesson ds) (lent : ℕ → List ℕ) (ll : (i : ℕ) → length (lent i) ≡ 464) (n : ℕ) (h : n < length ds) where
   abbrev d : List ℕ
   d = getD ds n []
@@ -222,20 +231,20 @@ module _ (ds : List (List ℕ)) (lesson : Lesson ds) (lent : ℕ → List ℕ) (
     arrived = blockBits rx n
 
     pub facch-heard : isFacch (length d) ≡ true → blockHeard controlG 0 184 arrived ≡ record { bits = d; good = true; count = bitsAltered d sent rx n }
-    unfolding bitsAltered protected blockOf
+    unfolding bitsAltered blockOf
     facch-heard e =
         let block : blockBits sent n ≡ controlBlock d = sent-own ∙ ap (λ (b : Bool). pick b (controlBlock d) (speechBlock d)) e in
         let count : bitsAltered d sent rx n ≡ disagreements arrived (controlBlock d) =
-        ap (λ (b : Bool). disagreements (pick b arrived (take 378 arrived)) (pick b (blockBits sent n) (take 378 (blockBits sent n)))) e ∙ ap (disagreements arrived) block in
+        ap₂ disagreements (protected-facch d arrived e) (protected-facch d (blockBits sent n) e ∙ block) in
         control-hearing d arrived (eqb-true (length d) 184 e) (valid .bits) (subst (λ (x : ℕ). x ≤ 3) count few)
         ∙ ap (λ (k : ℕ). record { bits = d; good = true; count = k }) (sym count)
 
     pub speech-heard : isFacch (length d) ≡ false → speechHeard arrived ≡ record { bits = take 182 d ++ drop 378 arrived; good = true; count = bitsAltered d sent rx n }
-    unfolding bitsAltered protected blockOf
+    unfolding bitsAltered blockOf
     speech-heard e =
         let block : blockBits sent n ≡ speechBlock d = sent-own ∙ ap (λ (b : Bool). pick b (controlBlock d) (speechBlock d)) e in
         let count : bitsAltered d sent rx n ≡ disagreements (take 378 arrived) (take 378 (speechBlock d)) =
-        ap (λ (b : Bool). disagreements (pick b arrived (take 378 arrived)) (pick b (blockBits sent n) (take 378 (blockBits sent n)))) e ∙ ap (λ (x : List ℕ). disagreements (take 378 arrived) (take 378 x)) block in
+        ap₂ disagreements (protected-speech d arrived e) (protected-speech d (blockBits sent n) e ∙ ap (take 378) block) in
         speech-hearing d arrived (is-speech d (valid .kind) e) (valid .bits) (subst (λ (x : ℕ). x ≤ 3) count few)
         ∙ ap (λ (k : ℕ). record { bits = take 182 d ++ drop 378 arrived; good = true; count = k }) (sym count)
 
