@@ -68,17 +68,19 @@ hostile_all() { # PROGRAM MODE
 
 # The handbook's examples: the kit and the reference answer as the paper says.
 compare_handbook() {
-    { handbook && lent_buffers; } >"$room/handbook"
+    { handbook && all_missing && some_missing && lent_buffers; } >"$room/handbook"
     sed 's/ => .*//' "$room/handbook" >"$room/lines"
     sed 's/.* => //' "$room/handbook" >"$room/want"
     "$room/reference" answer <"$room/lines" >"$room/from-reference"
     run_proved kit <"$room/lines" >"$room/got"
     if [ -s "$room/want" ] && cmp "$room/got" "$room/want" && cmp "$room/from-reference" "$room/want"; then
-        good "the handbook's examples that are run, and lent buffers: $(wc -l <"$room/want") lines"
+        good "the handbook's examples that are run, missing bits, and lent buffers: $(wc -l <"$room/want") lines"
     else
-        bad "the handbook's examples that are run, or lent buffers"
+        bad "the handbook's examples that are run, missing bits, or lent buffers"
     fi
     if flags_as_printed; then good "four altered flags are repaired, or give 9 where both parities are bad"; else bad "altered flags"; fi
+    if missing_flags_as_said; then good "missing flags have no vote"; else bad "missing flags"; fi
+    if lost_bursts_as_said; then good "a block is found though one of its bursts never came"; else bad "bursts that never came"; fi
 }
 
 compare_kit() {
@@ -92,6 +94,7 @@ compare_kit() {
         compare kit answer make-help "$seed" 4000
         compare kit answer make-totals "$seed" 4000
         compare kit answer make-ties "$seed" 4000
+        compare kit answer make-missing "$seed" 4000
         compare kit answer make-windows "$seed" 4000
     done
     compare_small_texts

@@ -11,8 +11,11 @@ said() { sed -n 's/^ *\(∷ \)\{0,1\}is .* (\([^()]*\))$/\2/p' "$table" | in_num
 # The received bits of a row, which have a name of their own.
 received() { sed -n "s/^$1 = //p" "$table" | in_numbers; } # NAME
 
-# The rows as the reference prints them: the tenth and the eleventh begin with the received bits.
-examples_in_table() { said | sed -e "10s/^/$(received tied) /" -e "11s/^/$(received fourAway) /"; }
+# The rows as the reference prints them: four from the tenth on begin with the received bits.
+examples_in_table() {
+    said | sed -e "10s/^/$(received tied) /" -e "11s/^/$(received fourAway) /" \
+        -e "12s/^/$(received lossyTied) /" -e "13s/^/$(received nothingCame) /"
+}
 
 # The table has all that the reference works out, and nothing else.
 examples_as_worked_out() { # REFERENCE ROOM

@@ -1,5 +1,5 @@
-# 01's handbook examples that are run and not proved, that of the flags as 02 has it (M-101), and what the table of refusals says of a lent
-# buffer, as kit lines: LINE => ANSWER, the answers typed from the papers. Sourced, by POSIX sh.
+# 01's handbook examples that are run and not proved, that of the flags as 02 has it (M-101), what 02 says of missing bits (M-102), and what the
+# table of refusals says of a lent buffer, as kit lines: LINE => ANSWER, the answers typed from the papers. Sourced, by POSIX sh.
 
 sevens() { zeros "$1" | tr 0 7; } # COUNT
 
@@ -20,6 +20,41 @@ handbook() {
     say "access? 64 $(zeros 36) => refused 3"
 }
 
+# Where all bits are missing nothing disagrees, and of all candidates the zeros are taken; their parity is good for access under 63 alone.
+all_missing() {
+    for words in 'speech? 456' 'control? 456' 'sacch? 464' 'sch? 78'; do say "${words% *} $(twos "${words#* }") => refused 8 0"; done
+    say "access? 63 $(twos 36) => 0 $(zeros 8)"
+    for identity in 0 1 7 12 31 32 62; do say "access? $identity $(twos 36) => refused 8 0"; done
+    # after four pairs every state is reached, and without a disagreement
+    say "trellis $(twos 8) =>$(printf ' 0%.0s' 1 2 3 4 5 6 7 8 9 10 11 12 13 14 15 16)"
+    # a whole block of a stream: no vote, a tie, and both parities bad
+    for burst in 0 1 2 3 4 5 6; do say "take $burst $(twos 116) => waiting"; done
+    say "take 7 $(twos 116) => refused 9 0"
+    say "totals => 0 0 1 0"
+    say "fresh => fresh"
+}
+
+# A missing bit is not counted, and 2 is one where bits are received alone; of the pair 1, 1 one bit is missing.
+some_missing() {
+    say "access? 63 11$(twos 1)1001$(zeros 29) => refused 8 3"
+    say "access? 63 $(twos 2)0$(twos 1)00$(twos 1)$(zeros 29) => 0 $(zeros 8)"
+    say "trellis 12 => 1 65535 65535 65535 65535 65535 65535 65535 0 65535 65535 65535 65535 65535 65535 65535"
+    say "trellis 13 => refused 2"
+    say "access 63 $(zeros 7)2 => refused 2"
+    say "access? 63 $(zeros 35)2 => 0 $(zeros 8)"
+    say "access? 63 $(zeros 35)3 => refused 2"
+    say "access? 64 $(zeros 35)2 => refused 3"
+    for words in 'speech 260' 'control 184' 'sacch 184' 'sch 25' 'send 260' 'send 184'; do
+        say "${words% *} $(zeros $((${words#* } - 1)))2 => refused 2"
+    done
+    for words in 'speech? 456' 'control? 456' 'sacch? 464' 'sch? 78' 'take 0 116'; do
+        say "${words% *} $(zeros $((${words##* } - 1)))3 => refused 2"
+    done
+    # a flag of four bursts may be missing
+    say "sacch? $(zeros 57)$(twos 2)$(zeros 405) => refused 8 0"
+    say "sacch? $(zeros 57)3$(zeros 406) => refused 2"
+}
+
 # A call that is done writes every byte, a refusal leaves all as before; a buffer of another length comes before the others.
 lent_buffers() {
     say "lend 36 7 access 63 $(zeros 8) => done $(zeros 36)"
@@ -30,6 +65,9 @@ lent_buffers() {
     say "lend 8 7 access? 63 $(zeros 36) => 0 $(zeros 8)"
     say "lend 8 7 access? 62 $(zeros 36) => refused 8 0 $(sevens 8)"
     say "lend 184 7 control? $(zeros 456) => refused 8 0 $(sevens 184)"
+    say "lend 8 7 access? 63 $(twos 36) => 0 $(zeros 8)"
+    say "lend 8 7 access? 63 $(zeros 35)3 => refused 2 $(sevens 8)"
+    say "lend 260 7 speech? $(twos 456) => refused 8 0 $(sevens 260)"
     # End with no block sent, and bursts of a stream
     say "lend 0 7 end => refused 1 -"
     say "lend 464 7 end => refused 6 $(sevens 464)"
@@ -45,20 +83,26 @@ lent_buffers() {
     say "lend 600 7 fresh => ?"
 }
 
-# The bursts of a stream of one block, COUNT zeros.
-sent_zeros() { printf 'send %s\nend\n' "$(zeros "$1")" | run_proved kit; } # COUNT
+# The bursts of a stream of one block.
+sent() { printf 'send %s\nend\n' "$1" | run_proved kit; } # BITS
+sent_zeros() { sent "$(zeros "$1")"; }                    # COUNT
 
-# The eight bursts of a block, one after another on standard input, with the first COUNT of its flags altered, as lines that take them.
-flagged() { # COUNT
-    tr -d '\n' | awk -v altered="$1" '{
+# The eight bursts of a block, one after another on standard input, as lines that take them: the first flags are altered, the next missing.
+flagged() { # ALTERED MISSING
+    tr -d '\n' | awk -v altered="$1" -v missing="$2" '{
         for (b = 0; b < 8; b++) {
             e = substr($0, 116 * b + 1, 116)
             flag = b < 4 ? 59 : 58
-            if (b < altered) e = substr(e, 1, flag - 1) (1 - substr(e, flag, 1)) substr(e, flag + 1)
-            print "take " b " " e
+            bit = substr(e, flag, 1)
+            if (b < altered) bit = 1 - bit
+            else if (b < altered + missing) bit = 2
+            print "take " b " " substr(e, 1, flag - 1) bit substr(e, flag + 1)
         }
     }'
 }
+
+# The same lines with one of the bursts missing.
+without_burst() { flagged 0 0 | sed "s/^take $1 .*/take $1 $(twos 116)/"; } # BURST
 
 # The last of the lines on standard input is answered so.
 ends_in() { [ "$(run_proved kit | tail -n 1)" = "$1" ]; } # ANSWER
@@ -66,11 +110,35 @@ ends_in() { [ "$(run_proved kit | tail -n 1)" = "$1" ]; } # ANSWER
 # Three altered flags are repaired by the others, and four by the parity; where it is bad as FACCH and as speech, four flags give 9.
 flags_as_printed() {
     for altered in 0 1 2 3 4; do
-        sent_zeros 260 | flagged $altered | ends_in "speech 0 0 $(zeros 260)" || return 1
-        sent_zeros 184 | flagged $altered | ends_in "facch 0 0 $(zeros 184)" || return 1
+        sent_zeros 260 | flagged $altered 0 | ends_in "speech 0 0 $(zeros 260)" || return 1
+        sent_zeros 184 | flagged $altered 0 | ends_in "facch 0 0 $(zeros 184)" || return 1
     done
     # as FACCH the speech has three ones, those of p; a good FACCH has an even number, since D + 1 divides its generator
-    sent_zeros 260 | flagged 5 | ends_in 'refused 8 0 0' || return 1
-    for altered in 3 5; do zeros 928 | flagged $altered | ends_in 'refused 8 0 0' || return 1; done
-    zeros 928 | flagged 4 | ends_in 'refused 9 0'
+    sent_zeros 260 | flagged 5 0 | ends_in 'refused 8 0 0' || return 1
+    for altered in 3 5; do zeros 928 | flagged $altered 0 | ends_in 'refused 8 0 0' || return 1; done
+    zeros 928 | flagged 4 0 | ends_in 'refused 9 0'
+}
+
+# A missing flag has no vote. With one vote more for the kind that was sent the others repair it, with as many for either the parity.
+missing_flags_as_said() {
+    for altered in 0 1 2 3; do
+        for missing in $((7 - 2 * altered)) $((8 - 2 * altered)); do
+            sent_zeros 260 | flagged $altered $missing | ends_in "speech 0 0 $(zeros 260)" || return 1
+            sent_zeros 184 | flagged $altered $missing | ends_in "facch 0 0 $(zeros 184)" || return 1
+        done
+        zeros 928 | flagged $altered $((7 - 2 * altered)) | ends_in 'refused 8 0 0' || return 1
+        zeros 928 | flagged $altered $((8 - 2 * altered)) | ends_in 'refused 9 0' || return 1
+    done
+    # more votes for the other kind
+    sent_zeros 260 | flagged 1 7 | ends_in 'refused 8 0 0'
+}
+
+# A block of which one burst never came, and which is taken as missing in its turn, is found by the seven others.
+lost_bursts_as_said() {
+    ones=$(zeros 184 | tr 0 1)
+    for burst in 0 1 2 3 4 5 6 7; do
+        sent "$ones" | without_burst $burst | ends_in "facch 0 0 $ones" || return 1
+        # bits that are unprotected in speech are given as 0 where they are missing
+        sent "${ones%??}$(zeros 78)" | without_burst $burst | ends_in "speech 0 0 ${ones%??}$(zeros 78)" || return 1
+    done
 }

@@ -4,6 +4,7 @@
 say() { printf '%s\n' "$*"; }
 complain() { printf '%s\n' "$*" >&2; }
 zeros() { printf "%0$1d" 0; } # COUNT
+twos() { zeros "$1" | tr 0 2; } # COUNT
 
 # ---- options
 

@@ -8,7 +8,7 @@ carriage_return=$(printf '\r')
 in_kit_words() {
     sed -E -e 's/^good, ([0-9]+) in disagreement: ([01]+)$/\1 \2/' \
         -e 's/^(refused 1): a buffer has the wrong length, (access|control)[?]? reads [0-9]+ bits$/\1/' \
-        -e 's/^(refused 2): a bit is neither 0 nor 1$/\1/' \
+        -e 's/^(refused 2): a bit is neither 0 nor 1, nor 2 for missing on reception$/\1/' \
         -e 's/^(refused 3): the identity is over 63$/\1/' \
         -e 's/^(refused 8): the parity is bad, ([0-9]+) in disagreement$/\1 \2/' \
         -e 's/^[?] write one of: .*/?/'
@@ -56,7 +56,7 @@ twin_lines() {
     for identity in 255 256 263 65536 65599 99999 4294967296 4294967303 4294967359 18446744073709551615 18446744073709551616 \
         18446744073709551623 18446744073709551679 "1$(zeros 5000)"; do
         for bits in 00000000 0000000x 00000002 000000000 2 ''; do say "access $identity $bits|access 64 $bits"; done
-        for bits in "$(zeros 36)" "$(zeros 35)2" "$(zeros 37)"; do say "access? $identity $bits|access? 64 $bits"; done
+        for bits in "$(zeros 36)" "$(zeros 35)2" "$(zeros 35)3" "$(zeros 37)"; do say "access? $identity $bits|access? 64 $bits"; done
     done
     for identity in 0 7 63 64 255; do
         say "access $(zeros 5000)$identity 00000000|access $identity 00000000"
@@ -132,12 +132,40 @@ refused_lines() {
     say "access? 64 $(zeros 35) => refused 1: a buffer has the wrong length, access? reads 36 bits"
     say "control $(zeros 185) => refused 1: a buffer has the wrong length, control reads 184 bits"
     say "control? 2 => refused 1: a buffer has the wrong length, control? reads 456 bits"
-    say "access 64 0000000x => refused 2: a bit is neither 0 nor 1"
-    say "control? $(zeros 455)2 => refused 2: a bit is neither 0 nor 1"
+    say "access 64 0000000x => refused 2: a bit is neither 0 nor 1, nor 2 for missing on reception"
+    say "access 7 00000002 => refused 2: a bit is neither 0 nor 1, nor 2 for missing on reception"
+    say "access? 64 $(zeros 35)3 => refused 2: a bit is neither 0 nor 1, nor 2 for missing on reception"
+    say "control $(zeros 183)2 => refused 2: a bit is neither 0 nor 1, nor 2 for missing on reception"
+    say "control? $(zeros 455)3 => refused 2: a bit is neither 0 nor 1, nor 2 for missing on reception"
+    say "control? $(zeros 455)x => refused 2: a bit is neither 0 nor 1, nor 2 for missing on reception"
     say "access 64 00000000 => refused 3: the identity is over 63"
     say "access? 64 $(zeros 36) => refused 3: the identity is over 63"
     say "access? 12 000110010001110011001100010011010000 => refused 8: the parity is bad, 3 in disagreement"
     say "control? $(zeros 456) => refused 8: the parity is bad, 0 in disagreement"
+}
+
+# Bits that are missing: six of a burst to bench seven, one altered and four missing, all of it, and all of a control block.
+lossy_lines() {
+    say "access? 7 002112012001112010201100010011210000 => good, 0 in disagreement: 01101001"
+    say "access? 12 002112012001112010201100010011210000 => refused 8: the parity is bad, 0 in disagreement"
+    say "access? 7 000112012001112010201100010011110000 => good, 1 in disagreement: 01101001"
+    say "access? 63 $(twos 36) => good, 0 in disagreement: 00000000"
+    say "access? 62 $(twos 36) => refused 8: the parity is bad, 0 in disagreement"
+    say "access? 64 $(twos 36) => refused 3: the identity is over 63"
+    say "access? 63 $(twos 37) => refused 1: a buffer has the wrong length, access? reads 36 bits"
+    say "control? $(twos 456) => refused 8: the parity is bad, 0 in disagreement"
+}
+
+# Where what is received has missing bits, the desk answers as it stands there.
+check_missing() { # DESK ROOM
+    lossy_lines >"$2/typed"
+    sed 's/ => .*//' "$2/typed" | run_host "$1" >"$2/got"
+    sed 's/.* => //' "$2/typed" >"$2/want"
+    if [ -s "$2/want" ] && cmp "$2/got" "$2/want"; then
+        good "desk on $(wc -l <"$2/want") lines with missing bits"
+    else
+        bad "desk on missing bits"
+    fi
 }
 
 # The refusals with their words, as README.md has them.
@@ -169,11 +197,11 @@ check_reasons() { # DESK REFERENCE ROOM README
 
 endless() { head -c 3000000 /dev/zero | tr '\0' "$1"; }
 
-# Each byte as a bit, as a number, in a word, between the words and alone.
+# Each byte as a bit that is sent or received, as a number, in a word, between the words and alone.
 every_byte() {
-    LC_ALL=C awk 'BEGIN {
+    LC_ALL=C awk -v zeros="$(zeros 35)" 'BEGIN {
         for (i = 0; i < 256; i++) {
-            printf "control %c\naccess 0 0000000%c\naccess %c 00000000\n", i, i, i
+            printf "control %c\naccess 0 0000000%c\naccess %c 00000000\naccess? 63 %s%c\n", i, i, i, zeros, i
             printf "access%c 0 00000000\naccess%c0 00000000\n%c\n", i, i, i
         }
     }'
@@ -323,6 +351,7 @@ check_desk() { # DESK REFERENCE ROOM
         compare_desk "$1" "$2" "$3" make-lines "$seed" 10000 plain
         compare_desk "$1" "$2" "$3" make-received "$seed" 4000 plain
     done
+    check_missing "$1" "$3"
     compare_twins "$1" "$2" "$3"
     compare_desk "$1" "$2" "$3" make-lines 4 10000 Windows
     compare_desk "$1" "$2" "$3" make-received 4 4000 Windows

@@ -6,7 +6,8 @@
  *   control BITS       sends 184 bits:                                   the 456 coded bits
  *   control? BITS      receives 456 bits:                                good, COUNT in disagreement: the 184 bits
  *
- * COUNT is in how many of the received bits the nearest block disagrees. A refusal is 'refused', its number and the reason.
+ * COUNT is in how many of the received bits the nearest block disagrees; 2 stands for a bit that is missing, and is not counted. A refusal
+ * is 'refused', its number and the reason.
  *
  * One carriage return before a newline is passed over, and so is a byte order mark before the first line: a text file from
  * Windows is read like any other. Where an answer cannot be written or the input cannot be read, the program says why and ends
@@ -21,9 +22,9 @@
 #include "desk.h"
 
 enum {
-    FIELDS = 3,  /* the most that a line is made of */
-    ROOM = 1024, /* how much of a field is kept; a longer one is too long for every call, and stays so when it is cut */
-    OVER_1 = 2   /* stands for a character that is no bit, and the library refuses it */
+    FIELDS = 3,    /* the most that a line is made of */
+    ROOM = 1024,   /* how much of a field is kept; a longer one is too long for every call, and stays so when it is cut */
+    NO_DIGIT = 255 /* stands for a character that is no digit, and the library refuses it */
 };
 
 static const unsigned char mark[] = {0xEF, 0xBB, 0xBF}; /* the byte order mark */
@@ -65,12 +66,16 @@ static uint64_t with_digit(uint64_t value, unsigned digit)
     return value <= (UINT64_MAX - digit) / 10 ? 10 * value + digit : UINT64_MAX;
 }
 
+/* Whether a byte is a decimal digit. */
+static bool is_digit(int byte)
+{
+    return byte >= '0' && byte <= '9';
+}
+
 /* Adds a byte to the number of a field, which it stays as long as there are digits alone. */
 static void add_digit(struct field *field, int byte)
 {
-    bool is_digit = byte >= '0' && byte <= '9';
-
-    field->is_number = is_digit && (field->length == 0 || field->is_number);
+    field->is_number = is_digit(byte) && (field->length == 0 || field->is_number);
     if (field->is_number) {
         field->value = with_digit(field->value, (unsigned)(byte - '0'));
     }
@@ -176,13 +181,11 @@ static const struct verb *find_verb(const struct line *line)
     return NULL;
 }
 
-/* The bits that the characters of a field stand for. */
+/* The bytes that the characters of a field stand for: digits are 0 to 9, of which the library refuses those that are no bits. */
 static void read_bits(const struct field *field, uint8_t bits[ROOM])
 {
     for (size_t k = 0; k < field->length; k++) {
-        bool is_bit = field->bytes[k] == '0' || field->bytes[k] == '1';
-
-        bits[k] = is_bit ? (uint8_t)(field->bytes[k] - '0') : OVER_1;
+        bits[k] = is_digit(field->bytes[k]) ? (uint8_t)(field->bytes[k] - '0') : NO_DIGIT;
     }
 }
 

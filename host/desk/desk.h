@@ -4,10 +4,11 @@
  * The library is libdesk.a, for Linux on x86-64: an archive of ELF objects that are called by the System V convention. A
  * program that links it is an x86-64 program; README.md has the lines that build and run one, there and on Arm.
  *
- * A bit is one byte, 0 or 1. Each call reads one buffer of bits and writes another; each buffer is passed as its address
- * and its length in bytes. No address may be null, not even for length 0, and the two buffers must not overlap. Nothing
- * else is asked of the caller: every length, every byte and every identity has its answer. A call keeps nothing for the
- * next one, takes no memory of its own but the stack, and never changes the buffer that it reads.
+ * A bit is one byte, 0 or 1; in what is received, DESK_MISSING stands in the place of a bit that never came. Each call reads one
+ * buffer of bits and writes another; each buffer is passed as its address and its length in bytes. No address may be null, not
+ * even for length 0, and the two buffers must not overlap. Nothing else is asked of the caller: every length, every byte and every
+ * identity has its answer. A call keeps nothing for the next one, takes no memory of its own but the stack, and never changes the
+ * buffer that it reads.
  *
  * An identity is passed in 64 bits, so that the number that you have arrives as it is: 263 is not cut to 7, and a negative int
  * is far over 63. Every identity over 63 is refused with 3.
@@ -37,7 +38,13 @@ extern "C" {
  *     #error "this program needs version 2 of the desk"
  *     #endif
  */
-#define DESK_VERSION 1
+#define DESK_VERSION 2 /* since the two calls that receive take DESK_MISSING, which version 1 refused */
+
+/*
+ * In what is received, the byte in the place of a bit that is missing. It disagrees with nothing and is not counted. Nothing is missing of
+ * what is sent, and no call writes it.
+ */
+#define DESK_MISSING 2
 
 /* The length of each buffer. */
 enum {
@@ -60,7 +67,7 @@ enum { DESK_STACK_BYTES = 8192 };
 enum desk_refusal {
     DESK_NO_REFUSAL = 0,     /* done, and the block is good */
     DESK_WRONG_LENGTH = 1,   /* one of the two buffers is longer or shorter than it has to be */
-    DESK_NOT_A_BIT = 2,      /* a byte that is read is over 1 */
+    DESK_NOT_A_BIT = 2,      /* a byte that is read is over 1 and, in what is received, not DESK_MISSING */
     DESK_WRONG_IDENTITY = 3, /* the identity is over 63 */
     DESK_BAD_PARITY = 8      /* receiving only: the nearest block has wrong parity bits */
 };
@@ -71,7 +78,7 @@ static inline uint32_t desk_number(uint32_t answer)
     return answer / 65536;
 }
 
-/* In how many of the received bits the nearest block disagrees; 0 after a send and after refusals 1, 2 and 3. */
+/* In how many of the received bits the nearest block disagrees, missing ones left out; 0 after a send and after refusals 1, 2 and 3. */
 static inline uint32_t desk_count(uint32_t answer)
 {
     return answer % 65536;
@@ -89,7 +96,7 @@ static inline const char *desk_reason(uint32_t number)
     case DESK_WRONG_LENGTH:
         return "a buffer has the wrong length";
     case DESK_NOT_A_BIT:
-        return "a bit is neither 0 nor 1";
+        return "a bit is neither 0 nor 1, nor 2 for missing on reception";
     case DESK_WRONG_IDENTITY:
         return "the identity is over 63";
     case 4:
@@ -103,7 +110,7 @@ static inline const char *desk_reason(uint32_t number)
     case DESK_BAD_PARITY:
         return "the parity is bad";
     case 9:
-        return "four of the eight flags are 1, and the parity is bad as FACCH and as speech";
+        return "as many flags are 1 as are 0, and the parity is bad as FACCH and as speech";
     default:
         return "no refusal has this number";
     }
@@ -118,11 +125,11 @@ uint32_t desk_send_access(uint64_t identity, const uint8_t *d, size_t d_len, uin
 
 /*
  * Receives an access burst as the base station of this identity.
- * Reads 36 bits from e, some of them perhaps altered on the way, and finds the nearest block that could have been sent.
+ * Reads 36 bits from e, some of them perhaps altered on the way or missing, and finds the nearest block that could have been sent.
  * If its parity is good under this identity, the number is 0 and its 8 bits are written to d; else the number is 8.
  * The count is given in both cases. The number may also be 1, 2 or 3.
- * Up to three altered bits are always repaired: then the count is how many were altered, and only the identity that the
- * burst was sent to takes it.
+ * Up to three altered bits are always repaired, and so are t altered and m missing ones where 2t + m is at most 6: then the count is how
+ * many were altered, and only the identity that the burst was sent to takes it.
  */
 uint32_t desk_receive_access(uint64_t identity, const uint8_t *e, size_t e_len, uint8_t *d, size_t d_len);
 
@@ -135,10 +142,11 @@ uint32_t desk_send_control(const uint8_t *d, size_t d_len, uint8_t *c, size_t c_
 
 /*
  * Receives a control block.
- * Reads 456 bits from c, some of them perhaps altered on the way, and finds the nearest block that could have been sent.
+ * Reads 456 bits from c, some of them perhaps altered on the way or missing, and finds the nearest block that could have been sent.
  * If its parity is good, the number is 0 and its 184 bits are written to d; else the number is 8.
  * The count is given in both cases. The number may also be 1 or 2.
- * Up to three altered bits are always repaired: then the number is 0 and the count is how many were altered.
+ * Up to three altered bits are always repaired, and so are t altered and m missing ones where 2t + m is at most 6: then the number is 0
+ * and the count is how many were altered.
  */
 uint32_t desk_receive_control(const uint8_t *c, size_t c_len, uint8_t *d, size_t d_len);
 

@@ -1,7 +1,7 @@
 /*
  * How much stack the four calls need. Each is made on a stack of its own that was painted beforehand, and everything counts
- * from the top of it to the deepest byte that is painted no longer. Good blocks, altered ones and refused ones are tried; a
- * call that needs more than desk.h says is a failure.
+ * from the top of it to the deepest byte that is painted no longer. Good blocks, altered ones, ones with missing bits and refused
+ * ones are tried; a call that needs more than desk.h says is a failure.
  *
  * Each call has a process of its own and is the first one there: on shared libraries the first call needs more than those
  * after it, since memcpy and memset are looked for when the library first calls them.
@@ -148,7 +148,7 @@ static void try_zeros(void)
     try_call(DESK_HIGHEST_IDENTITY + 1, call->reads, call->writes);
     try_call(IDENTITY, call->reads + 1, call->writes);
     try_call(IDENTITY, call->reads, call->writes + 1);
-    task.in[call->reads - 1] = 2;
+    task.in[call->reads - 1] = DESK_MISSING + 1;
     try_call(IDENTITY, call->reads, call->writes);
     task.in[call->reads - 1] = 0;
 }
@@ -161,7 +161,15 @@ static void alter(uint8_t *bits, size_t length, size_t times)
     }
 }
 
-/* Tries a block of any bits; where the call receives, the block as it is sent, with some of its bits altered. */
+/* Loses bits that are chosen by chance. */
+static void lose(uint8_t *bits, size_t length, size_t times)
+{
+    for (size_t k = 0; k < times; k++) {
+        bits[(size_t)rand() % length] = DESK_MISSING;
+    }
+}
+
+/* Tries a block of any bits; where the call receives, the block as it is sent, with some of its bits altered, and then with some missing. */
 static void try_block(size_t altered)
 {
     const struct call *call = task.call;
@@ -169,11 +177,14 @@ static void try_block(size_t altered)
 
     if (call->sender == NULL) {
         alter(task.in, call->reads, call->reads);
-    } else {
-        alter(bits, call->writes, call->writes);
-        answer_of(call->sender, IDENTITY, bits, call->writes, task.in, call->reads);
-        alter(task.in, call->reads, altered);
+        try_call(IDENTITY, call->reads, call->writes);
+        return;
     }
+    alter(bits, call->writes, call->writes);
+    answer_of(call->sender, IDENTITY, bits, call->writes, task.in, call->reads);
+    alter(task.in, call->reads, altered);
+    try_call(IDENTITY, call->reads, call->writes);
+    lose(task.in, call->reads, altered);
     try_call(IDENTITY, call->reads, call->writes);
 }
 

@@ -13,10 +13,12 @@ mod chance;
 mod model;
 
 use chance::lists::{self, random_bits};
+use chance::losses;
 use chance::random::Random;
 use model::bits::{add, bits_of};
 use model::channel::{Channel, Received, ACCESS, CONTROL, NO_IDENTITY};
 use model::coding::convolve;
+use model::missing::MISSING;
 
 /// The calls of desk.h, on slices.
 mod library {
@@ -110,6 +112,15 @@ impl Call {
         self.lengths().1
     }
 
+    /// The highest byte that is read as a bit.
+    fn highest(&self) -> u8 {
+        if self.sends {
+            1
+        } else {
+            MISSING
+        }
+    }
+
     /// What the reference makes of an input for so many lent bytes; a send counts nothing.
     fn reference(&self, identity: u64, input: &[u8], lent: usize) -> Received {
         if self.sends {
@@ -184,9 +195,9 @@ fn expected(call: &Call, identity: u64, input: &[u8], before: &[u8]) -> Outcome 
     }
 }
 
-/// Arbitrary bytes, none of them a bit.
+/// Arbitrary bytes, none of them a bit or missing.
 fn noise(random: &mut Random, length: usize) -> Vec<u8> {
-    (0..length).map(|_| 2 + random.below(254) as u8).collect()
+    (0..length).map(|_| 3 + random.below(253) as u8).collect()
 }
 
 /// The library makes this of an input, whatever non-bits the buffer holds before.
@@ -271,6 +282,15 @@ fn turned(list: &[u8], indices: &[usize]) -> Vec<u8> {
     let mut list = list.to_vec();
     for &k in indices {
         list[k] = 1 - list[k];
+    }
+    list
+}
+
+/// The list with the bits at the indices missing.
+fn lost(list: &[u8], indices: &[usize]) -> Vec<u8> {
+    let mut list = list.to_vec();
+    for &k in indices {
+        list[k] = MISSING;
     }
     list
 }
@@ -430,6 +450,78 @@ fn any_456_bits_are_received_as_the_reference_says() {
 }
 
 #[test]
+fn access_is_repaired_wherever_up_to_six_bits_are_missing() {
+    let mut random = Random::new(125);
+    for first in up_to_three_of(36) {
+        let (identity, d, e) = access_block(&mut random);
+        let mut lossy = lost(&e, &first);
+        // Others besides, of which some may be missing already.
+        lists::lose(&mut random, &mut lossy, 6 - first.len());
+        let other = (identity + 1 + random.below(63) as u64) % 64;
+        gives(&mut random, &RECEIVE_ACCESS, identity, &lossy, 0, &d);
+        refuses(&mut random, &RECEIVE_ACCESS, other, &lossy, 8, 0);
+    }
+}
+
+#[test]
+fn blocks_are_repaired_up_to_six_of_twice_the_altered_and_the_missing_bits() {
+    let mut random = Random::new(126);
+    for call in [&RECEIVE_ACCESS, &RECEIVE_CONTROL] {
+        for altered in 0..=3 {
+            for missing in 0..=6 - 2 * altered {
+                for _ in 0..40 {
+                    let (identity, d, mut e) = block(&mut random, &call.channel);
+                    lists::alter_and_lose(&mut random, &mut e, altered, missing);
+                    gives(&mut random, call, identity, &e, altered, &d);
+                }
+            }
+        }
+    }
+}
+
+#[test]
+fn what_is_missing_of_a_block_is_as_the_reference_says() {
+    let mut random = Random::new(127);
+    for call in [&RECEIVE_ACCESS, &RECEIVE_CONTROL] {
+        for weight in (1..=16).chain([20, 30, 45, 60]) {
+            for _ in 0..3 {
+                let (own, _, mut e) = block(&mut random, &call.channel);
+                losses::damage(&mut random, &mut e, weight);
+                let other = any_identity(&mut random);
+                agrees(&mut random, call, own, &e);
+                agrees(&mut random, call, other, &e);
+            }
+        }
+    }
+}
+
+#[test]
+fn what_is_missing_of_any_bits_is_as_the_reference_says() {
+    let mut random = Random::new(128);
+    for (call, times) in [(&RECEIVE_ACCESS, 150), (&RECEIVE_CONTROL, 30)] {
+        for _ in 0..times {
+            let (own, _, coded) = block(&mut random, &call.channel);
+            let mut lists = far_lists(&mut random, call.channel.pairs, coded.clone());
+            lists.push(coded);
+            for mut e in lists {
+                losses::lose_some(&mut random, &mut e);
+                agrees(&mut random, call, own, &e);
+            }
+        }
+    }
+}
+
+#[test]
+fn where_all_bits_are_missing_zeros_are_received() {
+    let mut random = Random::new(129);
+    refuses(&mut random, &RECEIVE_CONTROL, 0, &[MISSING; 456], 8, 0);
+    gives(&mut random, &RECEIVE_ACCESS, 63, &[MISSING; 36], 0, &[0; 8]);
+    for identity in 0..63 {
+        refuses(&mut random, &RECEIVE_ACCESS, identity, &[MISSING; 36], 8, 0);
+    }
+}
+
+#[test]
 fn each_control_parity_bit_counts() {
     let mut random = Random::new(111);
     for k in 184..224 {
@@ -487,12 +579,12 @@ fn two_wrong_lengths_are_refused() {
 }
 
 #[test]
-fn a_byte_over_1_is_refused_at_each_index() {
+fn a_byte_over_the_highest_is_refused_at_each_index() {
     let mut random = Random::new(114);
     for call in &CALLS {
         for k in 0..call.reads() {
-            let any = 2 + random.below(254) as u8;
-            for wrong in [2, 3, 127, 128, 129, 254, 255, any] {
+            let any = 3 + random.below(253) as u8;
+            for wrong in [call.highest() + 1, 3, 127, 128, 129, 130, 254, 255, any] {
                 let mut input = random_bits(&mut random, call.reads());
                 input[k] = wrong;
                 let identity = any_number(&mut random);
@@ -503,10 +595,10 @@ fn a_byte_over_1_is_refused_at_each_index() {
 }
 
 #[test]
-fn every_byte_over_1_is_refused() {
+fn every_byte_over_the_highest_is_refused() {
     let mut random = Random::new(115);
     for call in &CALLS {
-        for wrong in 2..=255 {
+        for wrong in call.highest() + 1..=255 {
             let mut input = random_bits(&mut random, call.reads());
             input[random.below(call.reads())] = wrong;
             let identity = any_identity(&mut random);
@@ -550,11 +642,11 @@ fn identities_over_63_are_refused() {
     }
 }
 
-/// Makes an input wrong in one of these ways or in both.
-fn spoil(random: &mut Random, input: &mut Vec<u8>, length: bool, bits: bool) {
+/// Makes an input wrong in one of these ways or in both: by one bit more, or by this byte.
+fn spoil(random: &mut Random, input: &mut Vec<u8>, length: bool, bits: bool, wrong: u8) {
     if bits {
         let k = random.below(input.len());
-        input[k] = random.pick(&[2, 128, 255]);
+        input[k] = wrong;
     }
     if length {
         input.push(random.below(2) as u8);
@@ -578,7 +670,8 @@ fn gives_the_lowest(
 ) {
     let [read, lent, bits] = wrong;
     let mut input = good.to_vec();
-    spoil(random, &mut input, read, bits);
+    let byte = random.pick(&[call.highest() + 1, 128, 255]);
+    spoil(random, &mut input, read, bits, byte);
     let before = noise(random, call.writes() + usize::from(lent));
     let got = outcome(call, identity, &input, &before);
     let high = identity > 63 && call.channel.has_identity;

@@ -4,6 +4,7 @@ use crate::model::bits::{bits_of, ones, ones_at};
 use crate::model::channel::{Channel, ACCESS, CONTROL, NO_IDENTITY, SCH, SPEECH};
 use crate::model::decoding::nearest;
 use crate::model::exhaustive::Pairs;
+use crate::model::missing::MISSING;
 use crate::model::polynomial::parity;
 use crate::model::sending_stream::sent_and_ended;
 
@@ -29,6 +30,8 @@ fn rows() -> Vec<Vec<usize>> {
     rows.extend([1, 2, 49, 50, 181, 182].map(ones_of_speech));
     rows.push(found(&tied()));
     rows.push(found(&four_away()));
+    rows.push(found(&lossy_tied()));
+    rows.push(found(&[MISSING; 16]));
     rows.push(ones_on_bursts());
     rows.push(flags_of_a_stream());
     rows.extend(of_both_kinds());
@@ -98,16 +101,34 @@ fn otherwise(r: &[u8]) -> Vec<Vec<u8>> {
     taken.into_iter().flatten().cloned().collect()
 }
 
-/// The first list of which the rule for ties and the three others each take another candidate.
+/// The rule for ties and the three others each take another candidate.
+fn is_told(r: &[u8]) -> bool {
+    let mut taken = otherwise(r);
+    taken.push(nearest(r).u);
+    taken.sort_unstable();
+    taken.dedup();
+    taken.len() == 4
+}
+
+/// The first list of which that is so.
 fn tied() -> Vec<u8> {
-    let is_told = |r: &Vec<u8>| {
-        let mut taken = otherwise(r);
-        taken.push(nearest(r).u);
-        taken.sort_unstable();
-        taken.dedup();
-        taken.len() == 4
-    };
-    lists_of_eight_pairs().find(is_told).expect("there is one")
+    let mut lists = lists_of_eight_pairs();
+    lists.find(|r| is_told(r)).expect("there is one")
+}
+
+/// The list with its first six bits missing, and two of each four behind them.
+fn lossy(mut r: Vec<u8>) -> Vec<u8> {
+    for k in (0..16).filter(|k| k < &6 || k % 4 > 1) {
+        r[k] = MISSING;
+    }
+    r
+}
+
+/// The first list with bits missing of which that is so, and with which the nearest disagrees.
+fn lossy_tied() -> Vec<u8> {
+    let mut lists = lists_of_eight_pairs().map(lossy);
+    let found = lists.find(|r| is_told(r) && nearest(r).count > 0);
+    found.expect("there is one")
 }
 
 /// The first list that is four bits away from several candidates, of which the rule for ties takes
@@ -152,19 +173,20 @@ fn of_both_kinds() -> [Vec<usize>; 2] {
 mod tests {
     use super::*;
     use crate::model::coding::convolve;
+    use crate::model::missing::disagrees;
 
     #[test]
-    fn there_are_fifteen_rows() {
+    fn there_are_seventeen_rows() {
         let lengths: Vec<usize> = rows().iter().map(|row| row.len()).collect();
         assert_eq!(lengths[..3], [40, 10, 36]);
-        assert_eq!(lengths[9..11], [25, 25]);
-        assert_eq!(lengths[12..], [24, 48, 48]);
+        assert_eq!(lengths[9..13], [25; 4]);
+        assert_eq!(lengths[14..], [24, 48, 48]);
     }
 
     #[test]
     fn numbers_are_parted_by_single_spaces() {
         assert_eq!(line(&[1, 0, 182]), "1 0 182");
-        assert_eq!(lines().len(), 15);
+        assert_eq!(lines().len(), 17);
     }
 
     #[test]
@@ -193,7 +215,7 @@ mod tests {
     /// In how many places the pairs of u disagree with the received bits, counted one by one.
     fn disagreements(u: &[u8], r: &[u8]) -> usize {
         let c = convolve(u);
-        (0..r.len()).filter(|&k| c[k] != r[k]).count()
+        (0..r.len()).filter(|&k| disagrees(c[k], r[k])).count()
     }
 
     /// Several candidates tie at the count of the nearest one, and that is not all zeros.
@@ -211,16 +233,18 @@ mod tests {
     }
 
     #[test]
-    fn the_two_lists_of_eight_pairs_tie() {
+    fn the_three_lists_of_eight_pairs_tie() {
         is_a_tie(&tied());
         is_a_tie(&four_away());
+        is_a_tie(&lossy_tied());
+        assert_eq!(nearest(&lossy_tied()).count, 1);
         assert_eq!(nearest(&four_away()).count, 4);
         assert_ne!(nearest(&four_away()).u, nearest(&tied()).u);
     }
 
     #[test]
     fn the_other_rules_take_others() {
-        for r in [tied(), four_away()] {
+        for r in [tied(), four_away(), lossy_tied()] {
             let taken = nearest(&r).u;
             for other in otherwise(&r) {
                 assert!(all_nearest(&r).contains(&other));

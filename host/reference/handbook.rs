@@ -92,7 +92,8 @@ mod tests {
     fn rows_are_as_printed() {
         let speech = "speech D: the 456 coded bits of the 260 bits D";
         assert_eq!(help(b"speech").as_deref(), Some(speech));
-        let asked = "sch? R: of 78 received bits, COUNT and the 25 bits of the nearest block";
+        let asked = "sch? R: of 78 received bits, 2 for a missing one, \
+                     COUNT and the 25 bits of the nearest block";
         assert_eq!(help(b"sch?").as_deref(), Some(asked));
         let fresh = "fresh: fresh; both streams begin anew";
         assert_eq!(help(b"fresh").as_deref(), Some(fresh));
@@ -112,14 +113,14 @@ mod tests {
         let told: Vec<String> = (1..=9).map(|refusal| why(refusal).unwrap()).collect();
         let expected = [
             "a buffer has the wrong length",
-            "a bit is neither 0 nor 1",
+            "a bit is neither 0 nor 1, nor 2 for missing on reception",
             "the identity is over 63",
             "the burst is not the next one",
             "the stream is full: 16383 blocks are sent, or burst 65535 is taken",
             "nothing was sent before the end",
             "the stream has ended",
             "the parity is bad",
-            "four of the eight flags are 1, and the parity is bad as FACCH and as speech",
+            "as many flags are 1 as are 0, and the parity is bad as FACCH and as speech",
         ];
         assert_eq!(told, expected);
         assert_eq!(refusals().len(), 9);

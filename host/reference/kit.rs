@@ -401,8 +401,10 @@ mod tests {
             ("access 64 00000000", "refused 3"),
             ("access 65535 00000000", "refused 3"),
             ("sch 2", "refused 1"),
-            ("access? 64 {0*36}2", "refused 1"),
-            ("access? 64 {2*36}", "refused 2"),
+            ("access? 64 {0*36}3", "refused 1"),
+            ("access? 64 {3*36}", "refused 2"),
+            ("access? 64 {0*35}3", "refused 2"),
+            ("access? 64 {2*36}", "refused 3"),
             ("access? 64 {0*36}", "refused 3"),
             ("access? 65535 {0*36}", "refused 3"),
         ]);
@@ -417,10 +419,63 @@ mod tests {
     }
 
     #[test]
+    fn a_2_is_a_missing_bit_where_it_is_received_alone() {
+        for wrong in [b'3', b'9', b'/', b':', b'x', 0, 13, 128, 255] {
+            let line = [full("access? 63 {0*35}").as_bytes(), &[wrong]].concat();
+            assert_eq!(answer(&line), "refused 2", "byte {}", wrong);
+        }
+        answered(&[
+            ("access? 63 {0*35}2", "0 {0*8}"),
+            ("access? 63 {2*36}", "0 {0*8}"),
+            ("access? 62 {2*36}", "refused 8 0"),
+            // The last bit is 1 where the last colour bit is, and identity 62 has it so.
+            ("access? 63 {2*35}1", "refused 8 0"),
+            ("access? 62 {2*35}1", "0 {0*8}"),
+            ("speech? {2*456}", "refused 8 0"),
+            ("control? {2*456}", "refused 8 0"),
+            ("sacch? {2*464}", "refused 8 0"),
+            ("sch? {2*78}", "refused 8 0"),
+            ("access 63 {0*7}2", "refused 2"),
+            ("sch {0*24}2", "refused 2"),
+            ("speech {2*260}", "refused 2"),
+            ("control {0*183}2", "refused 2"),
+            ("sacch 2{0*183}", "refused 2"),
+            ("send {0*183}2", "refused 2"),
+            ("send 2{0*259}", "refused 2"),
+        ]);
+    }
+
+    #[test]
+    fn missing_bits_are_not_counted() {
+        // Three bits are altered, or six are missing, or one is altered and four are missing.
+        answered(&[
+            ("access 7 01101001", "001110010001110010001100010011110000"),
+            (
+                "access? 7 000110010001110011001100010011010000",
+                "3 01101001",
+            ),
+            (
+                "access? 7 002112012001112010201100010011210000",
+                "0 01101001",
+            ),
+            (
+                "access? 7 000112012001112010201100010011110000",
+                "1 01101001",
+            ),
+            (
+                "access? 12 002112012001112010201100010011210000",
+                "refused 8 0",
+            ),
+        ]);
+    }
+
+    #[test]
     fn the_view_answers_sixteen_numbers() {
         answered(&[
             ("trellis 11", "2{ 65535*7} 0{ 65535*7}"),
             ("trellis 00", "0{ 65535*7} 2{ 65535*7}"),
+            ("trellis 12", "1{ 65535*7} 0{ 65535*7}"),
+            ("trellis 22", "0{ 65535*7} 0{ 65535*7}"),
         ]);
         let longest = answer_to("trellis {01*228}");
         assert_eq!(longest.split(' ').count(), 16);
@@ -435,8 +490,9 @@ mod tests {
     #[test]
     fn the_view_refuses_lengths_and_then_bytes() {
         answered(&[
-            ("trellis 2", "refused 1"),
-            ("trellis 12", "refused 2"),
+            ("trellis 3", "refused 1"),
+            ("trellis 13", "refused 2"),
+            ("trellis {3*458}", "refused 1"),
             ("trellis {2*458}", "refused 1"),
         ]);
     }
@@ -490,6 +546,35 @@ mod tests {
         // hu of the first four bursts of a block is 1, hl of the last four is 0.
         let expected = two_answers("refused 9 0", "refused 9 1");
         assert_eq!(twelve_taken("{0*57}01{0*57}"), expected);
+    }
+
+    #[test]
+    fn what_is_all_missing_is_refused_with_9() {
+        let expected = two_answers("refused 9 0", "refused 9 1");
+        assert_eq!(twelve_taken("{2*116}"), expected);
+        // Four flags of each block have a vote, and all the same.
+        let expected = two_answers("refused 8 0 0", "refused 8 1 0");
+        for votes in ["{2*57}0{2*58}", "{2*58}1{2*57}"] {
+            assert_eq!(twelve_taken(votes), expected);
+        }
+        // As many are 1 as are 0.
+        let expected = two_answers("refused 9 0", "refused 9 1");
+        assert_eq!(twelve_taken("{2*57}01{2*57}"), expected);
+    }
+
+    #[test]
+    fn a_burst_that_never_came_is_taken_as_116_missing_bits() {
+        let (speech, facch) = ("{0110*45}01{0*78}", "{1101*46}");
+        let sent = bursts_of(&[speech, facch]);
+        let first = full(&format!("speech 0 0 {}", speech));
+        let second = full(&format!("facch 1 0 {}", facch));
+        for burst in 0..12 {
+            let mut bursts = sent.clone();
+            bursts[burst] = full("{2*116}");
+            let take = |(number, e)| format!("take {} {}", number, e).into_bytes();
+            let lines: Vec<Vec<u8>> = bursts.iter().enumerate().map(take).collect();
+            assert_eq!(answers(&lines), two_answers(&first, &second));
+        }
     }
 
     #[test]
@@ -601,11 +686,11 @@ mod tests {
         answered(&[
             ("lend 35 7 access 64 2222222", "refused 1 {7*35}"),
             ("lend 37 7 access 64 00000002", "refused 1 {7*37}"),
-            ("lend 9 7 access? 64 {2*36}", "refused 1 {7*9}"),
+            ("lend 9 7 access? 64 {3*36}", "refused 1 {7*9}"),
             ("lend 9 7 access? 0 {0*36}", "refused 1 {7*9}"),
             ("lend 463 7 send {2*260}", "refused 1 {7*463}"),
             ("lend 465 7 end", "refused 1 {7*465}"),
-            ("lend 259 7 take 1 {2*116}", "refused 1 {7*259}"),
+            ("lend 259 7 take 1 {3*116}", "refused 1 {7*259}"),
         ]);
         let ended = ["send {0*184}", "end", "lend 463 7 end", "lend 464 7 end"];
         let answers = answers_to(&ended);
@@ -814,7 +899,7 @@ mod tests {
             ("why 003", "the identity is over 63"),
             (
                 "why 00009",
-                "four of the eight flags are 1, and the parity is bad as FACCH and as speech",
+                "as many flags are 1 as are 0, and the parity is bad as FACCH and as speech",
             ),
         ]);
     }
@@ -963,7 +1048,8 @@ mod tests {
         assert_eq!(kit.answer(b"totals"), "0 1 0 1");
         for (line, expected) in [
             ("take 8 {0*115}", "refused 1"),
-            ("take 8 {2*116}", "refused 2"),
+            ("take 8 {3*116}", "refused 2"),
+            ("take 7 {2*116}", "refused 4"),
             ("take 7 {0*116}", "refused 4"),
             ("take 9 {0*116}", "refused 4"),
             ("take 65536 {0*116}", "?"),
@@ -1064,8 +1150,10 @@ mod tests {
         answered(&[
             ("send 2", "refused 1"),
             ("send {2*184}", "refused 2"),
-            ("take 65535 2", "refused 1"),
+            ("take 65535 3", "refused 1"),
             ("take 65535 {x*116}", "refused 2"),
+            ("take 65535 {3*116}", "refused 2"),
+            ("take 65535 {2*116}", "refused 4"),
             ("take 65535 {0*116}", "refused 4"),
             ("take 1 {0*116}", "refused 4"),
             ("take 00000 {0*116}", "waiting"),

@@ -14,6 +14,7 @@
 //! reference make-help SEED COUNT       prints COUNT kit lines, most of which ask for help
 //! reference make-totals SEED COUNT     prints COUNT kit lines, many of which ask for the totals
 //! reference make-ties SEED COUNT       prints COUNT kit lines of lessons in which most blocks tie
+//! reference make-missing SEED COUNT    prints COUNT kit lines of lessons in which bits are missing
 //! reference make-windows SEED COUNT    prints COUNT kit lines as a text from Windows has them
 //! reference make-full SEED             prints the kit lines of one stream of 16,383 blocks
 //! reference make-sheet SEED COUNT      prints COUNT access sheet lines
@@ -145,7 +146,7 @@ mod tests {
     }
 
     #[test]
-    fn the_fifteen_commands_are_known() {
+    fn the_sixteen_commands_are_known() {
         assert!(matches!(task_of("answer"), Some(Task::Answer)));
         assert!(matches!(task_of("sheet"), Some(Task::Sheet)));
         assert!(matches!(task_of("examples"), Some(Task::Examples)));
@@ -158,6 +159,7 @@ mod tests {
         makes("make-help 1 800", "make-help", 1, 800);
         makes("make-totals 10 1000", "make-totals", 10, 1000);
         makes("make-ties 11 1100", "make-ties", 11, 1100);
+        makes("make-missing 12 1200", "make-missing", 12, 1200);
         makes("make-windows 0 900", "make-windows", 0, 900);
         makes("make-full 3", "make-full", 3, 0);
         makes("make-sheet 8 200", "make-sheet", 8, 200);
@@ -168,8 +170,8 @@ mod tests {
         let words = "usage: reference answer | sheet | examples | make-lines SEED COUNT | \
             make-received SEED COUNT | make-views SEED COUNT | make-lessons SEED COUNT | \
             make-stream SEED BLOCKS | make-lend SEED COUNT | make-help SEED COUNT | \
-            make-totals SEED COUNT | make-ties SEED COUNT | make-windows SEED COUNT | \
-            make-full SEED | make-sheet SEED COUNT";
+            make-totals SEED COUNT | make-ties SEED COUNT | make-missing SEED COUNT | \
+            make-windows SEED COUNT | make-full SEED | make-sheet SEED COUNT";
         assert_eq!(usage(), words);
     }
 
@@ -197,6 +199,9 @@ mod tests {
             "make-ties",
             "make-ties 7",
             "make-tie 7 1",
+            "make-missing",
+            "make-missing 7",
+            "make-missed 7 1",
             "make-windows 7 x",
             "make-window 7 1",
             "help",

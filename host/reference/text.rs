@@ -120,7 +120,7 @@ mod tests {
     #[test]
     fn refusals_are_written_with_what_is_returned_besides() {
         assert_eq!(refused(Refusal::WrongIdentity, None), "refused 3");
-        assert_eq!(refused(Refusal::FourFlags, Some(7)), "refused 9 7");
+        assert_eq!(refused(Refusal::EqualFlags, Some(7)), "refused 9 7");
         let bad_parity = Refusal::BadParity { count: 12 };
         assert_eq!(refused(bad_parity, None), "refused 8 12");
         assert_eq!(refused(bad_parity, Some(7)), "refused 8 7 12");

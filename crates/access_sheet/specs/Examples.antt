@@ -1,6 +1,6 @@
 -- 01, Handbook examples, the access sheet: its three lines and what they are answered, computed.
 use mathlib.Core.Path.{_≡_, refl}
-use Rattle.bits.specs.Bits.{allBits, largest, tab, tabFrom, add, zeros, ones, digits}
+use Rattle.bits.specs.Bits.{noneOver, largest, tab, tabFrom, add, zeros, ones, digits}
 use Rattle.parity.specs.Division.{occurs, product, lower, divide, remainder, parity, accessG}
 use Rattle.convolution.specs.Pairs.{back, first, second, codedAt, coded}
 use Rattle.text.specs.Text.{bytesOf, digitOf, bitCharacter, refusedAs}
@@ -12,5 +12,5 @@ use Rattle.access_sheet.specs.Sheet.{isHead, twoDigits, headed, identity
 pub examples : (sheetAnswer (bytesOf "00 00000000") ≡ bytesOf "00 000000000000000011101001101001000011")
     × (sheetAnswer (bytesOf "63 00000000") ≡ bytesOf "63 000000000000000000000000000000000000")
     × (sheetAnswer (bytesOf "64 00000000") ≡ bytesOf "64 refused 3")
-unfolding allBits largest tab tabFrom add zeros ones digits occurs product lower divide remainder parity accessG back first second codedAt coded digitOf bitCharacter refusedAs sentOr tells colour accessU accessBurst judged entry accessSent isHead twoDigits headed identityOf saidOf said sheetAnswer
+unfolding noneOver largest tab tabFrom add zeros ones digits occurs product lower divide remainder parity accessG back first second codedAt coded digitOf bitCharacter refusedAs sentOr tells colour accessU accessBurst judged entry accessSent isHead twoDigits headed identityOf saidOf said sheetAnswer
 examples = (refl, refl, refl)

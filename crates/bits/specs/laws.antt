@@ -5,3 +5,4 @@ pub mod Check
 pub mod Cases
 pub mod Parts
 pub mod Total
+pub mod Missing

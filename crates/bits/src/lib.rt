@@ -2,7 +2,7 @@
 ghost use mathlib.Core.Path.{_≡_};
 ghost use Prim.Native.Nat.{max, _≤_, _/_, _%_, _^_, _-_, _<_};
 ghost use lib.ListN.{length, getD, replicate};
-ghost use Rattle.bits.specs.Bits.{largest, allBits, digits, tab};
+ghost use Rattle.bits.specs.Bits.{Symbols, digits, givenBits, largest, noneOver, symbol, tab};
 
 // The larger of two bytes.
 fn larger(a: u8, b: u8) -> u8
@@ -25,11 +25,11 @@ pub fn largest(w: &[u8]) -> u8
     most
 }
 
-// Is every byte of w a bit? (01, Numbers given for a no, 2)
-pub fn are_bits(w: &[u8]) -> bool
-    ensures { λ r. ⌜ r ≡ allBits (now (w .entry)) ⌝ }
+// Is no byte of w over `most`? (01, Numbers given for a no, 2)
+pub fn none_over(w: &[u8], most: u8) -> bool
+    ensures { λ r. ⌜ r ≡ noneOver most (now (w .entry)) ⌝ }
 {
-    largest(w) <= 1
+    largest(w) <= most
 }
 
 // Bit `at` of x, counted from the lowest.
@@ -76,13 +76,32 @@ pub fn fill(v: u8, out: &mut [u8])
     }
 }
 
-// The lowest bit of each byte, in its place.
-pub fn lowest(w: &mut [u8])
-    ensures { λ _. ⌜ now (w .exit) ≡ tab (length (now (w .entry))) (λ k. getD (now (w .entry)) k 0 % 2) ⌝ }
+// `from`, byte for byte, but a missing bit, 2, is given as 0 (02, M-102).
+pub fn give(from: &[u8], to: &mut [u8])
+    requires { ⌜ (length (now to) ≡ length (now from)) × Symbols (now from) ⌝ }
+    ensures { λ _. ⌜ now (to .exit) ≡ givenBits (now (from .entry)) ⌝ }
+{
+    let mut k = 0;
+    while k < from.len() {
+        to[k] = from[k] % 2;
+        k += 1;
+    }
+}
+
+// A byte as what is received can be: 0, 1, or 2 for missing.
+pub fn symbol(byte: u8) -> u8
+    ensures { λ r. ⌜ r ≡ symbol byte ⌝ }
+{
+    if byte < 2 { byte } else { 2 }
+}
+
+// Each byte so, in its place.
+pub fn make_symbols(w: &mut [u8])
+    ensures { λ _. ⌜ now (w .exit) ≡ tab (length (now (w .entry))) (λ k. symbol (getD (now (w .entry)) k 0)) ⌝ }
 {
     let mut k = 0;
     while k < w.len() {
-        w[k] = w[k] % 2;
+        w[k] = symbol(w[k]);
         k += 1;
     }
 }

@@ -1,7 +1,7 @@
 -- A block out of the held bursts: its coded bits and its eight flags.
 use mathlib.Core.List.{List}
 use Prim.Native.Nat.{ℕ, _+_, _%_}
-use lib.Dec.{ltb}
+use lib.Dec.{ltb, eqb}
 use Rattle.bits.specs.Bits.{pick, tab, value}
 use Rattle.burst.specs.Numbers.{firstBurst}
 use Rattle.places.specs.Places.{eAt, hl, hu}
@@ -18,6 +18,13 @@ heldBlock held n = tab 456 (heldBlockAt held n)
 unfoldable pub heldFlagAt : List ℕ → ℕ → ℕ → ℕ
 heldFlagAt held n i = heldBit held (firstBurst n + i) (pick (ltb i 4) hu hl)
 
--- in one byte, the first the highest
-unfoldable pub heldFlags : List ℕ → ℕ → ℕ
-heldFlags held n = value (tab 8 (heldFlagAt held n))
+-- does a flag say b? 02, M-102: a missing flag has no vote, it says neither 0 nor 1
+unfoldable pub saying : ℕ → ℕ → ℕ
+saying b flag = pick (eqb flag b) 1 0
+
+-- which of eight flags say b, in one byte, the first the highest
+unfoldable pub sayers : ℕ → (ℕ → ℕ) → ℕ
+sayers b flag = value (tab 8 (λ i. saying b (flag i)))
+
+unfoldable pub heldFlags : ℕ → List ℕ → ℕ → ℕ
+heldFlags b held n = sayers b (heldFlagAt held n)

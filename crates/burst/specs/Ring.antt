@@ -2,10 +2,11 @@
 use mathlib.Core.List.{List, _++_}
 use Prim.Native.Nat.{ℕ, _+_, _*_, _%_}
 use lib.ListN.{getD, take, drop}
+use Rattle.bits.specs.Bits.{symbol}
 
--- e(x) of burst B. A held byte counts as its lowest bit, so that whatever is held is bits
+-- e(x) of burst B. A held byte over 2, which no call makes, counts as missing
 unfoldable pub heldBit : List ℕ → ℕ → ℕ → ℕ
-heldBit held B x = getD held (116 * (B % 8) + x) 0 % 2
+heldBit held B x = symbol (getD held (116 * (B % 8) + x) 0)
 
 -- burst B is put in its place
 unfoldable pub kept : List ℕ → ℕ → List ℕ → List ℕ

@@ -22,13 +22,13 @@ pub fn hold(b: BurstNumber, e: &[u8], held: &mut [u8])
     bits::copy(e, &mut held[from..to]);
 }
 
-// e(x) of burst B, as a bit.
+// e(x) of burst B.
 pub fn held_bit(b: BurstNumber, x: usize, held: &[u8]) -> u8
     requires { ⌜ (x < 116) × (length (now held) ≡ 928) ⌝ }
-    ensures { λ r. ⌜ (r ≡ heldBit (now (held .entry)) (b .0) x) × (r ≤ 1) ⌝ }
+    ensures { λ r. ⌜ r ≡ heldBit (now (held .entry)) (b .0) x ⌝ }
 {
     let from = held_at(b);
-    held[from + x] % 2
+    bits::symbol(held[from + x])
 }
 
 // The eight bursts one after another, burst B first.

@@ -5,7 +5,7 @@ use mathlib.Core.Path.{_≡_}
 use Prim.Native.Nat.{ℕ, _*_, _/_, _%_}
 use lib.Dec.{eqb, leb}
 use lib.ListN.{length}
-use Rattle.bits.specs.Bits.{Bits, both, allBits, tab}
+use Rattle.bits.specs.Bits.{NoneOver, both, noneOver, tab}
 use Rattle.trellis.specs.Nearest.{row}
 use Rattle.answers.specs.Answers.{Answer, tells}
 use Rattle.answers.specs.declared.Refusal.the-variants.{Length, NotBits, Identity}
@@ -13,7 +13,7 @@ use Rattle.answers.specs.declared.Told.{Told}
 use Rattle.answers.specs.declared.Told.the-variants.{Done, Refused}
 use Rattle.coder.specs.Blocks.{speechBlock, controlBlock, sacchMessage, accessBurst, schBurst}
 
--- 01: where several apply, 1, 2, 3. Are the lengths right, are all bytes bits, is the identity at most 63?
+-- 01: where several apply, 1, 2, 3. Are the lengths right, is no byte over what it may be, is the identity at most 63?
 unfoldable pub judged : Bool → Bool → Bool → Told
 judged false bits identity = Refused Length
 judged true false identity = Refused NotBits
@@ -24,15 +24,16 @@ judged true true true = Done
 abbrev pub lengths : List ℕ → ℕ → List ℕ → ℕ → Bool
 lengths d n c m = both (eqb (length d) n) (eqb (length c) m)
 
--- what an entry should be given: n bits to read, and a lent buffer of m bytes
-pub record Given (n m : ℕ) (d out : List ℕ) : Type 0 where
+-- what an entry should be given: n bytes to read, none over `most`, and a lent buffer of m bytes. 02, M-102: `most` is 1 for what is sent, bits, and 2 for
+-- what is received, bits of which some may be missing
+pub record Given (most n m : ℕ) (d out : List ℕ) : Type 0 where
   pub reads : length d ≡ n
-  pub bits : Bits d
+  pub bits : NoneOver most d
   pub lends : length out ≡ m
 
 -- an entry that reads n bits d, and an identity, and sends m bytes into a buffer that held c
 unfoldable pub entry : ℕ → ℕ → ℕ → List ℕ → List ℕ → List ℕ → Answer Told
-entry n m identity d sent c = tells (judged (lengths d n c m) (allBits d) (leb identity 63)) sent c
+entry n m identity d sent c = tells (judged (lengths d n c m) (noneOver 1 d) (leb identity 63)) sent c
 
 -- speech block: 260 to 456. An entry that reads no identity has 0 in its place
 unfoldable pub speechSent : List ℕ → List ℕ → Answer Told
@@ -67,4 +68,4 @@ unreached = tab 16 (λ s. 65535)
 
 -- what is told, and the sixteen numbers after all pairs of r
 unfoldable pub trellisViewed : List ℕ → Answer Told
-trellisViewed r = tells (judged (viewLength r) (allBits r) true) (row r (length r / 2)) unreached
+trellisViewed r = tells (judged (viewLength r) (noneOver 2 r) true) (row r (length r / 2)) unreached

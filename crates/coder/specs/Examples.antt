@@ -4,11 +4,11 @@ use mathlib.Core.List.{List, [], _∷_}
 use mathlib.Core.Path.{_≡_, refl}
 use Prim.Native.Nat.{ℕ, suc, _%_}
 use lib.Dec.{eqb}
-use Rattle.bits.specs.Bits.{pick, both, largest, allBits, tab, tabFrom, add, zeros, ones, digits}
+use Rattle.bits.specs.Bits.{pick, both, largest, noneOver, isMissing, tab, tabFrom, add, zeros, ones, digits, differ}
 use Rattle.parity.specs.Division.{occurs, product, lower, divide, remainder, parity, speechG, accessG}
 use Rattle.convolution.specs.Pairs.{back, first, second, codedAt, coded, pairOf}
 use Rattle.register.specs.Register.{from, bit, way, best}
-use Rattle.trellis.specs.Nearest.{differ, pairCost, rowAt, row}
+use Rattle.trellis.specs.Nearest.{pairCost, rowAt, row}
 use Rattle.places.specs.Places.{placeOf, eOf, eAt}
 use Rattle.answers.specs.Answers.{sentOr, tells}
 use Rattle.coder.specs.Entries.{judged, unreached, trellisViewed}
@@ -64,5 +64,5 @@ allHold [] = true
 allHold (x ∷ xs) = both (same (x .computed) (x .said)) (allHold xs)
 
 pub examples : allHold table ≡ true
-unfolding allHold table tab tabFrom add zeros ones digits occurs product lower divide remainder parity speechG accessG back first second codedAt coded placeOf eOf eAt speechP speechUAt speechU speechBlock colour accessU accessBurst from bit way best pairOf differ pairCost rowAt row judged tells sentOr allBits largest unreached trellisViewed
+unfolding allHold table tab tabFrom add zeros ones digits occurs product lower divide remainder parity speechG accessG back first second codedAt coded placeOf eOf eAt speechP speechUAt speechU speechBlock colour accessU accessBurst from bit way best pairOf differ pairCost rowAt row judged tells sentOr noneOver largest isMissing unreached trellisViewed
 examples = refl

@@ -4,7 +4,7 @@ use mathlib.Core.List.{List, _++_}
 use Prim.Native.Nat.{ℕ, _+_, _-_, _/_, _%_}
 use lib.Dec.{eqb, leb}
 use lib.ListN.{length, getD, take, drop}
-use Rattle.bits.specs.Bits.{pick, tab, add, ones, digits, value, allBits}
+use Rattle.bits.specs.Bits.{pick, tab, add, ones, digits, value, givenBits, noneOver}
 use Rattle.parity.specs.Division.{remainder, speechG, controlG, accessG, schG}
 use Rattle.trellis.specs.Nearest.{nearest, nearestCount}
 use Rattle.places.specs.Places.{gathered}
@@ -36,12 +36,13 @@ blockHeard g colour n c =
 unfoldable pub speechDAt : List ℕ → ℕ → ℕ
 speechDAt u j = pick (eqb (j % 2) 0) (getD u (j / 2) 0) (getD u (184 - j / 2) 0)
 
--- the protected bits are the first 378; the parity bits stand at u(91) to u(93), over the first 50 bits; the last 78 are as received
+-- the protected bits are the first 378; the parity bits stand at u(91) to u(93), over the first 50 bits; the last 78 are as received, and by 02, M-102
+-- missing ones are given as 0
 unfoldable pub speechHeard : List ℕ → Hearing
 speechHeard c =
     let u : List ℕ = nearest (take 378 c) 189 in
     let d : List ℕ = tab 182 (speechDAt u) in
-    record { bits = d ++ drop 378 c; good = allOnes speechG (take 50 d ++ take 3 (drop 91 u)); count = nearestCount (take 378 c) 189 }
+    record { bits = d ++ givenBits (drop 378 c); good = allOnes speechG (take 50 d ++ take 3 (drop 91 u)); count = nearestCount (take 378 c) 189 }
 
 -- ---- what is told of it
 unfoldable pub verdict : Hearing → Heard
@@ -55,9 +56,9 @@ unfoldable pub judgedHearing : Told → Hearing → Heard
 judgedHearing told.Done h = verdict h
 judgedHearing (told.Refused r) h = heard.Refused r
 
--- an entry that reads n bits c, and an identity, and hands over m bits into a buffer that held d
+-- an entry that reads n bytes c, none over 2 (02, M-102), and an identity, and hands over m bits into a buffer that held d
 unfoldable pub reception : ℕ → ℕ → ℕ → List ℕ → Hearing → List ℕ → Answer Heard
-reception n m identity c h d = hears (judgedHearing (judged (lengths c n d m) (allBits c) (leb identity 63)) h) (h .bits) d
+reception n m identity c h d = hears (judgedHearing (judged (lengths c n d m) (noneOver 2 c) (leb identity 63)) h) (h .bits) d
 
 -- speech block: 456 to 260
 unfoldable pub speechReceived : List ℕ → List ℕ → Answer Heard
@@ -67,7 +68,7 @@ speechReceived c d = reception 456 260 0 c (speechHeard c) d
 unfoldable pub controlReceived : List ℕ → List ℕ → Answer Heard
 controlReceived c d = reception 456 184 0 c (blockHeard controlG 0 184 c) d
 
--- SACCH message: 464 to 184; all 464 must be bits, the flags are not used
+-- SACCH message: 464 to 184; no byte may be over 2, the flags are not used
 unfoldable pub sacchReceived : List ℕ → List ℕ → Answer Heard
 sacchReceived e d = reception 464 184 0 e (blockHeard controlG 0 184 (gathered e)) d
 

@@ -4,7 +4,7 @@ use mathlib.Core.List.{List, _++_}
 use mathlib.Core.Path.{_≡_}
 use Prim.Native.Nat.{ℕ, _*_, _/_, _%_, _≤_, _<_}
 use lib.ListN.{length, getD, take, drop}
-use Rattle.bits.specs.Bits.{Bits, tab, add, ones, digits}
+use Rattle.bits.specs.Bits.{NoneOver, Symbols, givenBits, tab, add, ones, digits}
 use Rattle.parity.specs.Division.{remainder, speechG, controlG, accessG, schG}
 use Rattle.trellis.specs.Nearest.{Nearest, Fewest}
 use Rattle.places.specs.Places.{gathered}
@@ -17,18 +17,18 @@ use Rattle.coder.specs.Blocks.{speechBlock, controlBlock, sacchMessage, 
 use Rattle.coder.specs.Entries.{Given, speechSent, controlSent, sacchSent, accessSent, schSent, trellisViewed}
 use Rattle.coder.specs.Received.{speechDAt, speechReceived, controlReceived, sacchReceived, accessReceived, schReceived}
 
--- 01, Numbers given for a no: an entry that reads n bits d and the identity i, and is lent m bytes that held `before`, answers a. Where
--- several apply: 1, 2, 3
-pub record Refusing {A : Type 0} (of : A → Returned) (a : Answer A) (n m i : ℕ) (d before : List ℕ) : Type 0 where
+-- 01, Numbers given for a no: an entry that reads n bytes d, none of which may be over `most`, and the identity i, and is lent m bytes that held `before`,
+-- answers a. Where several apply: 1, 2, 3
+pub record Refusing {A : Type 0} (of : A → Returned) (a : Answer A) (most n m i : ℕ) (d before : List ℕ) : Type 0 where
   pub one : ((length d ≡ n) × (length before ≡ m) → ⊥) → Refuses of a 1 before
-  pub two : length d ≡ n → length before ≡ m → (Bits d → ⊥) → Refuses of a 2 before
-  pub three : Given n m d before → 63 < i → Refuses of a 3 before
+  pub two : length d ≡ n → length before ≡ m → (NoneOver most d → ⊥) → Refuses of a 2 before
+  pub three : Given most n m d before → 63 < i → Refuses of a 3 before
 
--- ---- sending: done, with no number, exactly when none of them applies; `sent` then stands in the buffer
+-- ---- sending, of bits: done, with no number, exactly when none of them applies; `sent` then stands in the buffer
 pub record Sends (a : Answer Told) (n m i : ℕ) (d sent before : List ℕ) : Type 0 where
-  pub refused : Refusing ofTold a n m i d before
-  pub done : Given n m d before → i ≤ 63 → Returns ofTold a None None sent
-  pub only : ofTold (a .result) ≡ returned None None → Given n m d before × (i ≤ 63)
+  pub refused : Refusing ofTold a 1 n m i d before
+  pub done : Given 1 n m d before → i ≤ 63 → Returns ofTold a None None sent
+  pub only : ofTold (a .result) ≡ returned None None → Given 1 n m d before × (i ≤ 63)
 
 abbrev pub SpeechSends : Type 0
 SpeechSends = (d c : List ℕ) → Sends (speechSent d c) 260 456 0 d (speechBlock d) c
@@ -69,7 +69,8 @@ blockWord g i n u = take n u ++ add (take (length g) (drop n u)) (digits (length
 abbrev pub BlockDecodes : List ℕ → ℕ → ℕ → ℕ → List ℕ → (ℕ → List ℕ → Type 0) → (ℕ → Type 0) → Type 0
 BlockDecodes g i n pairs c = Decodes c pairs g (blockWord g i n) (take n)
 
--- speech: d(0) to d(181) out of u; the first 50 and the parity bits at u(91) are divided; the last 78 are handed over as received
+-- speech: d(0) to d(181) out of u; the first 50 and the parity bits at u(91) are divided; the last 78 are handed over as received,
+-- missing ones as 0 (02, M-102)
 abbrev pub speechD : List ℕ → List ℕ
 speechD u = tab 182 (speechDAt u)
 
@@ -77,13 +78,13 @@ abbrev pub speechWord : List ℕ → List ℕ
 speechWord u = take 50 (speechD u) ++ take 3 (drop 91 u)
 
 abbrev pub SpeechDecodes : List ℕ → (ℕ → List ℕ → Type 0) → (ℕ → Type 0) → Type 0
-SpeechDecodes c = Decodes (take 378 c) 189 speechG speechWord (λ u. speechD u ++ drop 378 c)
+SpeechDecodes c = Decodes (take 378 c) 189 speechG speechWord (λ u. speechD u ++ givenBits (drop 378 c))
 
--- refused with 1, 2 or 3, or else decoded; a count is returned only where none of the three applies
+-- 02, M-102: 2 is for a byte over 2. Refused with 1, 2 or 3, or else decoded; a count is returned only where none of the three applies
 pub record Receives (a : Answer Heard) (n m i : ℕ) (c before : List ℕ) (decoded : (ℕ → List ℕ → Type 0) → (ℕ → Type 0) → Type 0) : Type 0 where
-  pub refused : Refusing ofHeard a n m i c before
-  pub heard : Given n m c before → i ≤ 63 → decoded (Accepts a) (λ k. FindsBad a k before)
-  pub only : (k : ℕ) → ofHeard (a .result) .count ≡ Some k → Given n m c before × (i ≤ 63)
+  pub refused : Refusing ofHeard a 2 n m i c before
+  pub heard : Given 2 n m c before → i ≤ 63 → decoded (Accepts a) (λ k. FindsBad a k before)
+  pub only : (k : ℕ) → ofHeard (a .result) .count ≡ Some k → Given 2 n m c before × (i ≤ 63)
 
 abbrev pub SpeechReceives : Type 0
 SpeechReceives = (c d : List ℕ) → Receives (speechReceived c d) 456 260 0 c d (SpeechDecodes c)
@@ -100,13 +101,13 @@ AccessReceives = (i : ℕ) (e d : List ℕ) → Receives (accessReceived i e d) 
 abbrev pub SchReceives : Type 0
 SchReceives = (e d : List ℕ) → Receives (schReceived e d) 78 25 0 e d (BlockDecodes schG 0 25 39 e)
 
--- ---- the trellis view: 1 for an odd length or one over 456, then 2, and sixteen times 65,535; else the sixteen numbers after all pairs
+-- ---- the trellis view: 1 for an odd length or one over 456, then 2 for a byte over 2, and sixteen times 65,535; else the sixteen numbers after all pairs
 abbrev pub nothingSeen : List ℕ
 nothingSeen = tab 16 (λ s. 65535)
 
 pub record Views (r : List ℕ) : Type 0 where
   pub one : ((length r % 2 ≡ 0) × (length r ≤ 456) → ⊥) → Refuses ofTold (trellisViewed r) 1 nothingSeen
-  pub two : length r % 2 ≡ 0 → length r ≤ 456 → (Bits r → ⊥) → Refuses ofTold (trellisViewed r) 2 nothingSeen
-  pub done : length r % 2 ≡ 0 → length r ≤ 456 → Bits r → ofTold (trellisViewed r .result) ≡ returned None None
-  pub only : ofTold (trellisViewed r .result) ≡ returned None None → (length r % 2 ≡ 0) × (length r ≤ 456) × Bits r
-  pub fewest : length r % 2 ≡ 0 → length r ≤ 456 → Bits r → (s : ℕ) → s < 16 → Fewest r (length r / 2) s (getD (trellisViewed r .left) s 0)
+  pub two : length r % 2 ≡ 0 → length r ≤ 456 → (Symbols r → ⊥) → Refuses ofTold (trellisViewed r) 2 nothingSeen
+  pub done : length r % 2 ≡ 0 → length r ≤ 456 → Symbols r → ofTold (trellisViewed r .result) ≡ returned None None
+  pub only : ofTold (trellisViewed r .result) ≡ returned None None → (length r % 2 ≡ 0) × (length r ≤ 456) × Symbols r
+  pub fewest : length r % 2 ≡ 0 → length r ≤ 456 → Symbols r → (s : ℕ) → s < 16 → Fewest r (length r / 2) s (getD (trellisViewed r .left) s 0)

@@ -8,7 +8,7 @@ ghost use lib.Bits.{bitXor};
 ghost use lib.Dec.{eqb};
 ghost use lib.ListN.{length, drop};
 ghost use Rattle.answers.specs.Answers.{Meets};
-ghost use Rattle.bits.specs.Bits.{Bits, digits, value, ones, zeros};
+ghost use Rattle.bits.specs.Bits.{Bits, Symbols, digits, value, ones, zeros};
 ghost use Rattle.parity.specs.Asked.{Generates};
 ghost use Rattle.parity.specs.Division.{remainder};
 ghost use Rattle.trellis.specs.Nearest.{nearest, nearestCount, longest};
@@ -83,7 +83,7 @@ pub(crate) fn code(generator: u64, degree: u32, colour: u64, d: &[u8], c: &mut [
 
 // THE nearest block to c, u, in the first places of u, and in how many places its pairs disagree with c.
 pub(crate) fn decode(f: Format, c: &[u8], u: &mut [u8; LONGEST]) -> u16
-    requires { ⌜ (Fits f) × (Bits (now c)) × (length (now c) ≡ f .coded) × (length (now u) ≡ longest) ⌝ }
+    requires { ⌜ (Fits f) × (Symbols (now c)) × (length (now c) ≡ f .coded) × (length (now u) ≡ longest) ⌝ }
     ensures { λ r. ⌜ (now (u .exit) ≡ nearest (now (c .entry)) (size f) ++ drop (size f) (now (u .entry))) × (r ≡ nearestCount (now (c .entry)) (size f)) × (length (now (u .exit)) ≡ longest) ⌝ }
 {
     trellis::nearest(c, f.bits + f.degree as usize + 4, u)
@@ -107,7 +107,7 @@ pub(crate) fn leaves_ones(generator: u64, degree: u32, colour: u64, w: &[u8]) ->
 
 // The nearest block to c: its first bits are handed over where the parity bits within it, the colour added once more, are good.
 pub(crate) fn receive(f: Format, colour: u64, c: &[u8], d: &mut [u8]) -> Heard
-    requires { ⌜ (Fits f) × (Given (f .coded) (f .bits) (now c) (now d)) × (colour < 2 ^ f .degree) ⌝ }
+    requires { ⌜ (Fits f) × (Given 2 (f .coded) (f .bits) (now c) (now d)) × (colour < 2 ^ f .degree) ⌝ }
     ensures { λ r. ⌜ Meets (hands (blockHeard (generatorOf f) colour (f .bits) (now (c .entry))) (now (d .entry))) r (now (d .exit)) ⌝ }
 {
     let n = d.len();

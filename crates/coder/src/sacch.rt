@@ -3,7 +3,7 @@ use crate::block::CONTROL;
 use answers::Heard;
 ghost use mathlib.Core.Path.{_≡_};
 ghost use lib.ListN.{length};
-ghost use Rattle.bits.specs.Bits.{Bits};
+ghost use Rattle.bits.specs.Bits.{Bits, Symbols};
 ghost use Rattle.coder.specs.Blocks.{sacchMessage};
 ghost use Rattle.places.specs.Places.{gathered};
 ghost use Rattle.parity.specs.Division.{controlG};
@@ -22,7 +22,7 @@ pub(crate) fn code(d: &[u8], e: &mut [u8])
 
 // The control block out of its four bursts; the flags are not used.
 pub(crate) fn receive(e: &[u8], d: &mut [u8]) -> Heard
-    requires { ⌜ (Bits (now e)) × (length (now e) ≡ 464) × (length (now d) ≡ 184) ⌝ }
+    requires { ⌜ (Symbols (now e)) × (length (now e) ≡ 464) × (length (now d) ≡ 184) ⌝ }
     ensures { λ r. ⌜ Meets (hands (blockHeard controlG 0 184 (gathered (now (e .entry)))) (now (d .entry))) r (now (d .exit)) ⌝ }
 {
     let mut c = [0u8; 456];

@@ -5,7 +5,7 @@ ghost use mathlib.Core.List.{_++_};
 ghost use mathlib.Core.Path.{_≡_};
 ghost use Prim.Native.Nat.{_<_};
 ghost use lib.ListN.{length, take, drop};
-ghost use Rattle.bits.specs.Bits.{Bits, tab};
+ghost use Rattle.bits.specs.Bits.{Bits, Symbols, givenBits, tab};
 ghost use Rattle.coder.specs.Blocks.{speechP, speechUAt, speechBlock};
 ghost use Rattle.parity.specs.Division.{speechG};
 ghost use Rattle.answers.specs.Answers.{Meets};
@@ -90,18 +90,18 @@ fn is_good(d: &[u8], u: &[u8]) -> bool
     crate::block::leaves_ones(parity::SPEECH, 3, 0, &w)
 }
 
-// The protected bits, and the other 78 as they were received.
+// The protected bits, and the other 78 as they were received, missing ones as 0.
 fn hand_over(first: &[u8], c: &[u8], d: &mut [u8])
-    requires { ⌜ (length (now first) ≡ 182) × (length (now c) ≡ 456) × (length (now d) ≡ 260) ⌝ }
-    ensures { λ _. ⌜ now (d .exit) ≡ now (first .entry) ++ drop 378 (now (c .entry)) ⌝ }
+    requires { ⌜ (length (now first) ≡ 182) × (length (now c) ≡ 456) × (length (now d) ≡ 260) × Symbols (now c) ⌝ }
+    ensures { λ _. ⌜ now (d .exit) ≡ now (first .entry) ++ givenBits (drop 378 (now (c .entry))) ⌝ }
 {
     bits::copy(first, &mut d[0..182]);
-    bits::copy(&c[378..456], &mut d[182..260]);
+    bits::give(&c[378..456], &mut d[182..260]);
 }
 
 // The nearest block to the first 378 bits of c; it is handed over where its parity is good.
 pub(crate) fn receive(c: &[u8], d: &mut [u8]) -> Heard
-    requires { ⌜ (Bits (now c)) × (length (now c) ≡ 456) × (length (now d) ≡ 260) ⌝ }
+    requires { ⌜ (Symbols (now c)) × (length (now c) ≡ 456) × (length (now d) ≡ 260) ⌝ }
     ensures { λ r. ⌜ Meets (hands (speechHeard (now (c .entry))) (now (d .entry))) r (now (d .exit)) ⌝ }
 {
     let mut whole = [0u8; LONGEST];

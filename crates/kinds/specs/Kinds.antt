@@ -14,9 +14,11 @@ use Rattle.chart.specs.declared.Kind.the-variants as kind
 use Rattle.chart.specs.declared.Taken.{Taken}
 use Rattle.chart.specs.declared.Taken.the-variants as taken
 
--- 01: the eight flags are counted as one number's ones; 0 to 3 mean speech, 5 to 8 FACCH; 4 say neither
-unfoldable pub vote : ℕ → Kind
-vote flags = pick (ltb (count.ones flags) 4) kind.Speech (pick (ltb 4 (count.ones flags)) kind.Facch kind.Neither)
+-- 02, M-102, in the place of 01's "0 to 3 mean speech, 5 to 8 FACCH": those flags that are 1 and those that are 0 are counted, each as one number's ones. A
+-- missing one is among neither. More ones mean FACCH, more zeros speech; as many, none at all included, say neither
+unfoldable pub vote : ℕ → ℕ → Kind
+vote ones zeros =
+    pick (ltb (count.ones zeros) (count.ones ones)) kind.Facch (pick (ltb (count.ones ones) (count.ones zeros)) kind.Speech kind.Neither)
 
 -- good: the bits are written; bad: the buffer stands as before
 unfoldable pub goodOrBad : Bool → Taken → List ℕ → Taken → List ℕ → Answer Taken
@@ -29,7 +31,7 @@ speechOf n h d = goodOrBad (h .good) (taken.Speech (record { 0 = n }) (h .count)
 unfoldable pub facchOf : ℕ → Hearing → List ℕ → Answer Taken
 facchOf n h d = goodOrBad (h .good) (taken.Facch (record { 0 = n }) (h .count)) (h .bits ++ drop 184 d) (taken.Bad (record { 0 = n }) (h .count)) d
 
--- 02, M-101, in the place of 01's "4 gives refusal 9": with four ones block n is FACCH where its parity as control is good; else speech where its parity
+-- 02, M-101, in the place of 01's "4 gives refusal 9": where the flags say neither, block n is FACCH where its parity as control is good; else speech where its parity
 -- as speech is; else refusal 9, and the buffer stands as before
 unfoldable pub tied : ℕ → Hearing → Hearing → List ℕ → Answer Taken
 tied n control speech d =

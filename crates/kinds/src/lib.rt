@@ -6,21 +6,22 @@ use chart::Taken;
 ghost use mathlib.Core.Path.{_≡_};
 ghost use lib.ListN.{length};
 ghost use Rattle.answers.specs.Answers.{Meets};
-ghost use Rattle.bits.specs.Bits.{Bits};
+ghost use Rattle.bits.specs.Bits.{Symbols};
 ghost use Rattle.chart.specs.declared.Kind.the-variants.{Speech, Facch, Neither};
 ghost use Rattle.kinds.specs.Kinds.{vote, byKind};
 ghost use Rattle.kinds.specs.laws.Kinds.{asTaken, isGood};
 
-// 01: the flags' ones are counted; 0 to 3 mean speech, 5 to 8 FACCH; 4 is neither.
-fn vote(flags: u8) -> Kind
-    ensures { λ r. ⌜ r ≡ vote flags ⌝ }
+// Which flags are 1 and which are 0, each counted: more ones mean FACCH, more zeros speech; as many say neither (02, M-102).
+fn vote(ones: u8, zeros: u8) -> Kind
+    ensures { λ r. ⌜ r ≡ vote ones zeros ⌝ }
 {
-    let ones = u8::count_ones(flags);
-    if ones < 4 {
-        return Kind::Speech;
-    }
-    if ones > 4 {
+    let facch = u8::count_ones(ones);
+    let speech = u8::count_ones(zeros);
+    if speech < facch {
         return Kind::Facch;
+    }
+    if facch < speech {
+        return Kind::Speech;
     }
     Kind::Neither
 }
@@ -44,7 +45,7 @@ fn as_taken(facch: bool, n: BlockNumber, heard: Heard) -> Taken
 
 // The coded bits c of block n as speech.
 fn receive_speech(n: BlockNumber, c: &[u8], d: &mut [u8]) -> Taken
-    requires { ⌜ (length (now c) ≡ 456) × Bits (now c) × (length (now d) ≡ 260) ⌝ }
+    requires { ⌜ (length (now c) ≡ 456) × Symbols (now c) × (length (now d) ≡ 260) ⌝ }
     ensures { λ r. ⌜ Meets (byKind Speech (n .0) (now (c .entry)) (now (d .entry))) r (now (d .exit)) ⌝ }
 {
     as_taken(false, n, coder::receive_speech(c, d))
@@ -52,7 +53,7 @@ fn receive_speech(n: BlockNumber, c: &[u8], d: &mut [u8]) -> Taken
 
 // The coded bits c of block n as FACCH; the last 76 bytes are left.
 fn receive_facch(n: BlockNumber, c: &[u8], d: &mut [u8]) -> Taken
-    requires { ⌜ (length (now c) ≡ 456) × Bits (now c) × (length (now d) ≡ 260) ⌝ }
+    requires { ⌜ (length (now c) ≡ 456) × Symbols (now c) × (length (now d) ≡ 260) ⌝ }
     ensures { λ r. ⌜ Meets (byKind Facch (n .0) (now (c .entry)) (now (d .entry))) r (now (d .exit)) ⌝ }
 {
     as_taken(true, n, coder::receive_control(c, &mut d[0..184]))
@@ -72,9 +73,9 @@ fn is_good(taken: Taken) -> bool
     }
 }
 
-// 02, M-101: the coded bits c of block n, of which four flags are 1: FACCH if it is good as that, else speech if it is good as that, else neither.
+// 02, M-101: the coded bits c of block n, of which as many flags are 1 as are 0: FACCH if it is good as that, else speech if it is good as that, else neither.
 fn receive_tied(n: BlockNumber, c: &[u8], d: &mut [u8]) -> Taken
-    requires { ⌜ (length (now c) ≡ 456) × Bits (now c) × (length (now d) ≡ 260) ⌝ }
+    requires { ⌜ (length (now c) ≡ 456) × Symbols (now c) × (length (now d) ≡ 260) ⌝ }
     ensures { λ r. ⌜ Meets (byKind Neither (n .0) (now (c .entry)) (now (d .entry))) r (now (d .exit)) ⌝ }
 {
     let facch = receive_facch(n, c, d);
@@ -90,11 +91,11 @@ fn receive_tied(n: BlockNumber, c: &[u8], d: &mut [u8]) -> Taken
 }
 
 // The coded bits c of block n, as the kind that its flags say.
-pub fn receive(flags: u8, n: BlockNumber, c: &[u8], d: &mut [u8]) -> Taken
-    requires { ⌜ (length (now c) ≡ 456) × Bits (now c) × (length (now d) ≡ 260) ⌝ }
-    ensures { λ r. ⌜ Meets (byKind (vote flags) (n .0) (now (c .entry)) (now (d .entry))) r (now (d .exit)) ⌝ }
+pub fn receive(ones: u8, zeros: u8, n: BlockNumber, c: &[u8], d: &mut [u8]) -> Taken
+    requires { ⌜ (length (now c) ≡ 456) × Symbols (now c) × (length (now d) ≡ 260) ⌝ }
+    ensures { λ r. ⌜ Meets (byKind (vote ones zeros) (n .0) (now (c .entry)) (now (d .entry))) r (now (d .exit)) ⌝ }
 {
-    match vote(flags) {
+    match vote(ones, zeros) {
         Kind::Speech => receive_speech(n, c, d),
         Kind::Facch => receive_facch(n, c, d),
         Kind::Neither => receive_tied(n, c, d),

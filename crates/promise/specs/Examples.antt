@@ -8,11 +8,11 @@ use Prim.Native.Nat.{ℕ, _+_, _*_, _/_, _%_}
 use lib.Dec.{eqb, leb}
 use lib.ListN.{getD, take, drop}
 use Rattle.answers.specs.Answers.{sentOr, tells}
-use Rattle.bits.specs.Bits.{pick, both, largest, allBits, tab, tabFrom, add, zeros, ones, digits, value}
+use Rattle.bits.specs.Bits.{pick, both, largest, noneOver, isMissing, tab, tabFrom, add, zeros, ones, digits, value, differ}
 use Rattle.parity.specs.Division.{occurs, product, lower, divide, remainder, parity, speechG, controlG, accessG, schG}
 use Rattle.convolution.specs.Pairs.{back, first, second, codedAt, coded, pairOf}
 use Rattle.register.specs.Register.{from, bit, way, best, choice, walk}
-use Rattle.trellis.specs.Nearest.{differ, pairCost, rowAt, nearest, nearestCount}
+use Rattle.trellis.specs.Nearest.{pairCost, rowAt, nearest, nearestCount}
 use Rattle.places.specs.Places.{hl, placeAt, bitAt, flagIn, cell, burst, four, flagsOf}
 use Rattle.coder.specs.Blocks.{speechP, speechUAt, speechU, speechBlock, controlU, controlBlock, colour, accessU, accessBurst, schU}
 use Rattle.coder.specs.Entries.{judged, entry, speechSent, controlSent, accessSent}
@@ -45,6 +45,13 @@ tied = 0 ∷ 0 ∷ 0 ∷ 0 ∷ 1 ∷ 0 ∷ 0 ∷ 1 ∷ 1 ∷ 0 ∷ 0 ∷ 1 ∷ 0
 abbrev pub fourAway : List ℕ
 fourAway = 0 ∷ 0 ∷ 1 ∷ 1 ∷ 0 ∷ 0 ∷ 0 ∷ 1 ∷ 1 ∷ 0 ∷ 0 ∷ 0 ∷ 1 ∷ 1 ∷ 1 ∷ 1 ∷ []
 
+-- 02, M-102: eight pairs of which twelve bits are missing, to which several blocks are nearest; and eight of which all are missing
+abbrev pub lossyTied : List ℕ
+lossyTied = 2 ∷ 2 ∷ 2 ∷ 2 ∷ 2 ∷ 2 ∷ 2 ∷ 2 ∷ 1 ∷ 0 ∷ 2 ∷ 2 ∷ 0 ∷ 1 ∷ 2 ∷ 2 ∷ []
+
+abbrev pub nothingCame : List ℕ
+nothingCame = 2 ∷ 2 ∷ 2 ∷ 2 ∷ 2 ∷ 2 ∷ 2 ∷ 2 ∷ 2 ∷ 2 ∷ 2 ∷ 2 ∷ 2 ∷ 2 ∷ 2 ∷ 2 ∷ []
+
 -- u of eight bits, the last four 0, and the count
 abbrev pub decoded : List ℕ → List ℕ
 decoded r = nearest r 8 ++ (nearestCount r 8 ∷ [])
@@ -69,6 +76,8 @@ table =
     ∷ is (onesFrom 0 (speechSent (single 260 182) (zeros 456) .left)) (182 ∷ 183 ∷ 184 ∷ 186 ∷ 188 ∷ 194 ∷ 195 ∷ 378 ∷ [])
     ∷ is (decoded tied) (0 ∷ 0 ∷ 1 ∷ 0 ∷ 0 ∷ 0 ∷ 0 ∷ 0 ∷ 6 ∷ [])
     ∷ is (decoded fourAway) (0 ∷ 1 ∷ 1 ∷ 0 ∷ 0 ∷ 0 ∷ 0 ∷ 0 ∷ 4 ∷ [])
+    ∷ is (decoded lossyTied) (1 ∷ 0 ∷ 0 ∷ 1 ∷ 0 ∷ 0 ∷ 0 ∷ 0 ∷ 1 ∷ [])
+    ∷ is (decoded nothingCame) (0 ∷ 0 ∷ 0 ∷ 0 ∷ 0 ∷ 0 ∷ 0 ∷ 0 ∷ 0 ∷ [])
     ∷ is (onesFrom 0 (made lent (lit ∷ []))) (12 ∷ 20 ∷ 228 ∷ 322 ∷ 328 ∷ 336 ∷ 422 ∷ 428 ∷ 529 ∷ 537 ∷ 627 ∷ 727 ∷ 749 ∷ 827 ∷ 849 ∷ [])
     ∷ is (flagsSent (made lent (mixed 184 ∷ mixed 260 ∷ []))) (0 ∷ 1 ∷ 0 ∷ 1 ∷ 0 ∷ 1 ∷ 0 ∷ 1 ∷ 1 ∷ 0 ∷ 1 ∷ 0 ∷ 1 ∷ 0 ∷ 1 ∷ 0 ∷ 0 ∷ 0 ∷ 0 ∷ 0 ∷ 0 ∷ 0 ∷ 0 ∷ 0 ∷ [])
     ∷ is (onesFrom 0 (controlSent facchToo (zeros 456) .left)) (0 ∷ 1 ∷ 3 ∷ 6 ∷ 7 ∷ 11 ∷ 14 ∷ 15 ∷ 16 ∷ 17 ∷ 380 ∷ 381 ∷ 383 ∷ 389 ∷ 391 ∷ 392 ∷ 393 ∷ 394 ∷ 395 ∷ 397 ∷ 398 ∷ 401 ∷ 402 ∷ 404 ∷ 406 ∷ 408 ∷ 410 ∷ 412 ∷ 414 ∷ 417 ∷ 425 ∷ 426 ∷ 427 ∷ 428 ∷ 430 ∷ 431 ∷ 435 ∷ 437 ∷ 438 ∷ 439 ∷ 440 ∷ 441 ∷ 443 ∷ 444 ∷ 447 ∷ 449 ∷ 454 ∷ 455 ∷ [])
@@ -76,5 +85,5 @@ table =
     ∷ []
 
 pub examples : allHold table ≡ true
-unfolding allHold table tab tabFrom add zeros ones digits value largest allBits occurs product lower divide remainder parity speechG controlG accessG schG back first second codedAt coded pairOf from bit way best choice walk differ pairCost rowAt nearest nearestCount placeAt bitAt flagIn cell burst four flagsOf speechP speechUAt speechU speechBlock controlU controlBlock colour accessU accessBurst schU judged entry speechSent controlSent accessSent tells sentOr blockOf freshSender sendJudged sendTold sentBursts sentNext sendAnswer endJudged endTold endBursts endAnswer afterwards sendAll made
+unfolding allHold table tab tabFrom add zeros ones digits value largest noneOver isMissing occurs product lower divide remainder parity speechG controlG accessG schG back first second codedAt coded pairOf from bit way best choice walk differ pairCost rowAt nearest nearestCount placeAt bitAt flagIn cell burst four flagsOf speechP speechUAt speechU speechBlock controlU controlBlock colour accessU accessBurst schU judged entry speechSent controlSent accessSent tells sentOr blockOf freshSender sendJudged sendTold sentBursts sentNext sendAnswer endJudged endTold endBursts endAnswer afterwards sendAll made
 examples = refl

@@ -7,7 +7,8 @@ use Prim.Native.Nat.{ℕ, zero, suc, _+_, _*_, _/_, _%_, _≤_, _<_}
 use lib.Dec.{ltb}
 use lib.ListN.{length, getD, take, drop}
 use Rattle.answers.specs.Answers.{Answer, Meets, returned, ofTold}
-use Rattle.bits.specs.Bits.{Bits, pick, tab, value, total}
+use Rattle.bits.specs.Bits.{Bits, Symbols, givenBits, missing, pick, tab, total}
+use Rattle.burst.specs.Held.{saying, sayers}
 use Rattle.burst.specs.Numbers.{firstBurst}
 use Rattle.places.specs.Places.{eAt, placeAt, hl, hu}
 use Rattle.trellis.specs.Nearest.{disagreements}
@@ -56,10 +57,10 @@ after rx out (suc b) = takeAnswer (after rx out b) b (burstOf rx b) (out b) .res
 unfoldable pub takenAt : List ℕ → (ℕ → List ℕ) → ℕ → Answer Received
 takenAt rx out b = takeAnswer (after rx out b) b (burstOf rx b) (out b)
 
--- some bursts as they arrive: M of them, all bits
+-- some bursts as they arrive: M of them, bits of which any may be missing (02, M-102)
 pub record Arrives (M : ℕ) (rx : List ℕ) (out : ℕ → List ℕ) : Type 0 where
   pub long : length rx ≡ 116 * M
-  pub bits : Bits rx
+  pub bits : Symbols rx
   pub lent : (b : ℕ) → length (out b) ≡ 260
 
 -- ---- what stands at the places of block n. 01: bit k in burst 4n + (k mod 8); the flags are hu of its first four bursts, hl of its last four
@@ -73,12 +74,18 @@ blockFlags rx n = tab 8 (λ i. getD rx (116 * (firstBurst n + i) + pick (ltb i 4
 unfoldable pub protected : List ℕ → List ℕ → List ℕ
 protected d c = pick (isFacch (length d)) c (take 378 c)
 
--- how many of block n's own protected bits, and of its own flags, are not as sent
+-- how many of block n's own protected bits, and of its own flags, are altered, and how many are missing; a missing one is not altered
 unfoldable pub bitsAltered : List ℕ → List ℕ → List ℕ → ℕ → ℕ
 bitsAltered d sent rx n = disagreements (protected d (blockBits rx n)) (protected d (blockBits sent n))
 
+unfoldable pub bitsMissing : List ℕ → List ℕ → ℕ → ℕ
+bitsMissing d rx n = missing (protected d (blockBits rx n))
+
 unfoldable pub flagsAltered : List ℕ → List ℕ → ℕ → ℕ
 flagsAltered sent rx n = disagreements (blockFlags rx n) (blockFlags sent n)
+
+unfoldable pub flagsMissing : List ℕ → ℕ → ℕ
+flagsMissing rx n = missing (blockFlags rx n)
 
 -- the kind that was sent; and the bits handed over: the protected ones as sent, the others as received. FACCH leaves the last 76 bytes
 unfoldable pub kindOf : List ℕ → Kind
@@ -92,13 +99,27 @@ pub record Brings (a : Answer Received) (k : Kind) (n count : ℕ) (bytes : List
   pub told : ofTaken (a .result .told) ≡ values None k (Some n) (Some count)
   pub left : a .left ≡ bytes
 
--- ---- THE PROMISE: any lesson is sent and ended, and any bits arrive, as many as were sent. Whatever happened to other blocks: if at most
--- three of block n's own protected bits and at most three of its own flags are bitsAltered, burst 4n+7 brings it.
+-- ---- WHAT A BLOCK BEARS (02, M-102): any lesson is sent and ended, and as many bytes arrive as were sent, any of them altered or missing. Whatever
+-- happened to other blocks: if of block n's own protected bits t are altered and m are missing, 2t + m at most 6, and of its own flags f are altered and g
+-- are missing, 2f + g at most 7, burst 4n+7 brings it, with the count t; unprotected bits that are missing are 0.
+abbrev pub StreamBears : Type 0
+StreamBears =
+    (ds : List (List ℕ)) → Lesson ds → (lent : ℕ → List ℕ) → ((i : ℕ) → length (lent i) ≡ 464)
+    → (rx : List ℕ) (out : ℕ → List ℕ) → Arrives (4 * length ds + 4) rx out
+    → (n : ℕ) → n < length ds
+    → 2 * bitsAltered (getD ds n []) (made lent ds) rx n + bitsMissing (getD ds n []) rx n ≤ 6 → 2 * flagsAltered (made lent ds) rx n + flagsMissing rx n ≤ 7
+    → Brings (takenAt rx out (4 * n + 7)) (kindOf (getD ds n [])) n (bitsAltered (getD ds n []) (made lent ds) rx n)
+    (bitsOut (getD ds n []) (givenBits (blockBits rx n)) (out (4 * n + 7)))
+
+-- ---- THE PROMISE, demand 3 as 02, M-102 has it: any lesson is sent and ended, and as many bytes arrive as were sent. Whatever happened to other
+-- blocks, which may have lost anything: if none of block n's own bits and flags is missing, and at most three of its own protected bits and at most three of
+-- its own flags are altered, burst 4n+7 brings it.
 abbrev pub StreamPromise : Type 0
 StreamPromise =
     (ds : List (List ℕ)) → Lesson ds → (lent : ℕ → List ℕ) → ((i : ℕ) → length (lent i) ≡ 464)
     → (rx : List ℕ) (out : ℕ → List ℕ) → Arrives (4 * length ds + 4) rx out
     → (n : ℕ) → n < length ds
+    → missing (blockBits rx n) ≡ 0 → flagsMissing rx n ≡ 0
     → bitsAltered (getD ds n []) (made lent ds) rx n ≤ 3 → flagsAltered (made lent ds) rx n ≤ 3
     → Brings (takenAt rx out (4 * n + 7)) (kindOf (getD ds n [])) n (bitsAltered (getD ds n []) (made lent ds) rx n)
     (bitsOut (getD ds n []) (blockBits rx n) (out (4 * n + 7)))
@@ -124,8 +145,11 @@ IdleHalves =
 
 -- ---- LOCALITY: whatever arrives, burst 4n+7 brings what stands at block n's places, and nothing else counts; every other burst brings
 -- "waiting"
+abbrev pub flagsThat : ℕ → List ℕ → ℕ → ℕ
+flagsThat b rx n = sayers b (λ i. getD (blockFlags rx n) i 0)
+
 unfoldable pub answerFor : List ℕ → ℕ → List ℕ → Answer Taken
-answerFor rx n out = byKind (vote (value (blockFlags rx n))) n (blockBits rx n) out
+answerFor rx n out = byKind (vote (flagsThat 1 rx n) (flagsThat 0 rx n)) n (blockBits rx n) out
 
 -- what is told at burst b, and what the buffer then holds, is the answer a
 abbrev pub Answers : List ℕ → (ℕ → List ℕ) → ℕ → Answer Taken → Type 0
@@ -137,13 +161,16 @@ Locality =
     → ((n : ℕ) → 4 * n + 7 < M → Answers rx out (4 * n + 7) (answerFor rx n (out (4 * n + 7))))
     × ((b : ℕ) → b < M → ((n : ℕ) → b ≡ 4 * n + 7 → ⊥) → Answers rx out b (record { result = Waiting; left = out b }))
 
--- DEMAND 2 IN STREAMS: whatever arrives, burst 4n+7 is answered by how many of block n's own flags are 1, and as that kind by THE nearest block of
--- its own 456 bits, in 01's numbers and values
+-- DEMAND 2 IN STREAMS: whatever arrives, burst 4n+7 is answered by how many of block n's own flags are 1 and how many are 0, and as that kind by THE
+-- nearest block of its own 456 bits, in 01's numbers and values
+abbrev pub flagsSaying : ℕ → List ℕ → ℕ → ℕ
+flagsSaying b rx n = total 8 (λ i. saying b (getD (blockFlags rx n) i 0))
+
 abbrev pub StreamNearest : Type 0
 StreamNearest =
     (M : ℕ) → M ≤ 65536 → (rx : List ℕ) (out : ℕ → List ℕ) → Arrives M rx out → (n : ℕ) → 4 * n + 7 < M
     → BlockSays (λ v left. (ofTaken (takenAt rx out (4 * n + 7) .result .told) ≡ v) × (takenAt rx out (4 * n + 7) .left ≡ left))
-    (total 8 (λ i. getD (blockFlags rx n) i 0)) n (blockBits rx n) (out (4 * n + 7))
+    (flagsSaying 1 rx n) (flagsSaying 0 rx n) n (blockBits rx n) (out (4 * n + 7))
 
 -- a bad burst B costs the two blocks B/4 and B/4 - 1, and never a third: where two receptions differ in burst B alone, every other block's
 -- answer is the same

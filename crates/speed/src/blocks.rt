@@ -39,7 +39,11 @@ fn of_heard(heard: Heard) -> u32 {
 
 // What the last call told, where it left bits.
 pub fn seen(told: u32, left: &[u8]) -> u32 {
-    if bits::are_bits(left) { told } else { 65535 }
+    if bits::none_over(left, 1) {
+        told
+    } else {
+        65535
+    }
 }
 
 // The kinds of block, in the order of 01's table.

@@ -4,7 +4,7 @@ use mathlib.Core.List.{List}
 use Prim.Native.Nat.{ℕ, _+_}
 use lib.Dec.{eqb, leb}
 use lib.ListN.{length}
-use Rattle.bits.specs.Bits.{both, allBits, zeros}
+use Rattle.bits.specs.Bits.{both, noneOver, zeros}
 use Rattle.answers.specs.Answers.{Answer}
 use Rattle.answers.specs.declared.Refusal.the-variants.{Length, NotBits, Full, OutOfTurn}
 use Rattle.answers.specs.declared.Told.{Told}
@@ -25,7 +25,7 @@ use Rattle.stream.specs.declared.receiver.Receiver.{Receiver}
 unfoldable pub freshReceiver : Receiver
 freshReceiver = record { next = record { 0 = 0 }; held = zeros 928; totals = four 0 0 0 0 }
 
--- 01: where several apply, 1, 2, 5, 4; the stream is full when burst 65,535 is taken
+-- 01: where several apply, 1, 2, 5, 4; the stream is full when burst 65,535 is taken. 02, M-102: 2 is for a byte over 2
 unfoldable pub takeJudged : Bool → Bool → Bool → Bool → Told
 takeJudged false bits full turn = told.Refused Length
 takeJudged true false full turn = told.Refused NotBits
@@ -34,11 +34,11 @@ takeJudged true true false false = told.Refused OutOfTurn
 takeJudged true true false true = told.Done
 
 unfoldable pub takeTold : Receiver → ℕ → List ℕ → List ℕ → Told
-takeTold s b e d = takeJudged (both (eqb (length e) 116) (eqb (length d) 260)) (allBits e) (leb 65536 (s .next .0)) (eqb b (s .next .0))
+takeTold s b e d = takeJudged (both (eqb (length e) 116) (eqb (length d) 260)) (noneOver 2 e) (leb 65536 (s .next .0)) (eqb b (s .next .0))
 
 -- the answer for block n, out of the held bursts
 unfoldable pub blockAnswer : List ℕ → ℕ → List ℕ → Answer Taken
-blockAnswer held n d = byKind (vote (heldFlags held n)) n (heldBlock held n) d
+blockAnswer held n d = byKind (vote (heldFlags 1 held n) (heldFlags 0 held n)) n (heldBlock held n) d
 
 -- 01: burst 4n+7 brings the answer for block n; every other brings "waiting" and leaves the buffer
 unfoldable pub atEnding : Ending → List ℕ → List ℕ → Answer Taken

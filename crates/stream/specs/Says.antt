@@ -5,11 +5,11 @@ use mathlib.Core.List.{List}
 use mathlib.Core.Path.{_≡_}
 use Prim.Native.Nat.{ℕ, _+_, _*_, _≤_, _<_}
 use lib.ListN.{length}
-use Rattle.bits.specs.Bits.{Bits, total}
+use Rattle.bits.specs.Bits.{Bits, Symbols, total}
 use Rattle.answers.specs.Answers.{Answer, returned, ofTold}
 use Rattle.answers.specs.declared.Maybe.{Maybe}
 use Rattle.answers.specs.declared.Maybe.the-variants.{None, Some}
-use Rattle.burst.specs.Held.{heldFlagAt, heldBlock}
+use Rattle.burst.specs.Held.{saying, heldFlagAt, heldBlock}
 use Rattle.burst.specs.Ring.{kept}
 use Rattle.kinds.specs.Says.{BlockSays, BothBad}
 use Rattle.chart.specs.Answers.{values, ofTaken}
@@ -74,13 +74,17 @@ pub record EndSays (s : Sender) (e : List ℕ) : Type 0 where
 abbrev pub TakeReturns : Answer Received → Values → List ℕ → Receiver → Type 0
 TakeReturns a v left next = (ofTaken (a .result .told) ≡ v) × (a .left ≡ left) × (a .result .next ≡ next)
 
--- no refusal but 8 and 9 applies to a take: 116 bits, 260 bytes, room, and the next burst's number
+-- no refusal but 8 and 9 applies to a take: 116 bits, of which some may be missing (02, M-102), 260 bytes, room, and the next burst's number
 pub record Takeable (s : Receiver) (b : ℕ) (e d : List ℕ) : Type 0 where
   pub reads : length e ≡ 116
   pub writes : length d ≡ 260
-  pub bits : Bits e
+  pub bits : Symbols e
   pub room : s .next .0 < 65536
   pub turn : b ≡ s .next .0
+
+-- how many of block n's eight flags say b
+abbrev pub flagsSaying : ℕ → List ℕ → ℕ → ℕ
+flagsSaying b held n = total 8 (λ i. saying b (heldFlagAt held n i))
 
 abbrev pub refuses : ℕ → Values
 refuses number = values (Some number) Neither None None
@@ -89,23 +93,23 @@ refuses number = values (Some number) Neither None None
 -- other none. 02, M-100: the next stream's totals are those before and what the answer's values say, of every answer
 pub record TakeSays (s : Receiver) (b : ℕ) (e d : List ℕ) : Type 0 where
   pub one : ((length e ≡ 116) × (length d ≡ 260) → ⊥) → TakeReturns (takeAnswer s b e d) (refuses 1) d s
-  pub two : length e ≡ 116 → length d ≡ 260 → (Bits e → ⊥) → TakeReturns (takeAnswer s b e d) (refuses 2) d s
-  pub five : length e ≡ 116 → length d ≡ 260 → Bits e → 65536 ≤ s .next .0 → TakeReturns (takeAnswer s b e d) (refuses 5) d s
-  pub four : length e ≡ 116 → length d ≡ 260 → Bits e → s .next .0 < 65536 → (b ≡ s .next .0 → ⊥) → TakeReturns (takeAnswer s b e d) (refuses 4) d s
+  pub two : length e ≡ 116 → length d ≡ 260 → (Symbols e → ⊥) → TakeReturns (takeAnswer s b e d) (refuses 2) d s
+  pub five : length e ≡ 116 → length d ≡ 260 → Symbols e → 65536 ≤ s .next .0 → TakeReturns (takeAnswer s b e d) (refuses 5) d s
+  pub four : length e ≡ 116 → length d ≡ 260 → Symbols e → s .next .0 < 65536 → (b ≡ s .next .0 → ⊥) → TakeReturns (takeAnswer s b e d) (refuses 4) d s
   pub waiting : Takeable s b e d → ((n : ℕ) → b ≡ 4 * n + 7 → ⊥) → TakeReturns (takeAnswer s b e d) (values None Neither None None) d (takenNext s e Waiting)
   pub block : Takeable s b e d → (n : ℕ) → b ≡ 4 * n + 7
-      → BlockSays (λ v left. TakeReturns (takeAnswer s b e d) v left (takenNext s e (takeAnswer s b e d .result .told))) (total 8 (heldFlagAt (kept (s .held) b e) n)) n (heldBlock (kept (s .held) b e) n) d
+      → BlockSays (λ v left. TakeReturns (takeAnswer s b e d) v left (takenNext s e (takeAnswer s b e d .result .told))) (flagsSaying 1 (kept (s .held) b e) n) (flagsSaying 0 (kept (s .held) b e) n) n (heldBlock (kept (s .held) b e) n) d
   pub counts : (t : Taken) → takenNext s e t .next .0 ≡ s .next .0 + 1
   pub totals : (t : Taken) → takenNext s e t .totals ≡ more (s .totals) (said (ofTaken t))
   pub only : takeAnswer s b e d .result .next .next .0 ≡ s .next .0 + 1 → Takeable s b e d
 
--- ---- 02, M-101: 9 is given in no other case than this: the burst is taken and ends block n, four of whose flags are 1, and its coded bits are found bad
+-- ---- 02, M-101: 9 is given in no other case than this: the burst is taken and ends block n, of whose flags as many are 1 as are 0, and its coded bits are found bad
 -- both as FACCH and as speech
 pub record Nine (s : Receiver) (b : ℕ) (e d : List ℕ) : Type 0 where
   pub takes : Takeable s b e d
   pub n : ℕ
   pub ends : b ≡ 4 * n + 7
-  pub bad : BothBad (total 8 (heldFlagAt (kept (s .held) b e) n)) (heldBlock (kept (s .held) b e) n)
+  pub bad : BothBad (flagsSaying 1 (kept (s .held) b e) n) (flagsSaying 0 (kept (s .held) b e) n) (heldBlock (kept (s .held) b e) n)
 
 abbrev pub NineOnly : Type 0
 NineOnly = (s : Receiver) (b : ℕ) (e d : List ℕ) → ofTaken (takeAnswer s b e d .result .told) .number ≡ Some 9 → Nine s b e d

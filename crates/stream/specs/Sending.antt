@@ -4,7 +4,7 @@ use mathlib.Core.List.{List}
 use Prim.Native.Nat.{ℕ, _+_}
 use lib.Dec.{eqb, leb}
 use lib.ListN.{length}
-use Rattle.bits.specs.Bits.{pick, both, allBits, zeros}
+use Rattle.bits.specs.Bits.{pick, both, noneOver, zeros}
 use Rattle.answers.specs.Answers.{Answer}
 use Rattle.answers.specs.declared.Refusal.the-variants.{Length, NotBits, Full, NothingSent, Ended}
 use Rattle.answers.specs.declared.Told.{Told}
@@ -41,7 +41,7 @@ sendJudged true true false true = Refused Full
 sendJudged true true false false = Done
 
 unfoldable pub sendTold : Sender → List ℕ → List ℕ → Told
-sendTold s d e = sendJudged (both (isBlock (length d)) (eqb (length e) 464)) (allBits d) (s .ended) (leb 16383 (s .sent .0))
+sendTold s d e = sendJudged (both (isBlock (length d)) (eqb (length e) 464)) (noneOver 1 d) (s .ended) (leb 16383 (s .sent .0))
 
 -- block d begins in four bursts, in which the last block goes on
 unfoldable pub sentBursts : Sender → List ℕ → List ℕ

@@ -11,7 +11,7 @@ ghost use Prim.Native.Nat.{_<_};
 ghost use lib.Dec.{eqb, leb};
 ghost use lib.ListN.{length};
 ghost use Rattle.answers.specs.Answers.{Meets};
-ghost use Rattle.bits.specs.Bits.{allBits, both};
+ghost use Rattle.bits.specs.Bits.{noneOver, both};
 ghost use Rattle.stream.specs.Receiving.{freshReceiver, takeJudged, blockAnswer, burstAnswer, takeAnswer};
 
 // The number of the next burst; the last eight bursts, of which burst B stands at 116 (B mod 8); and the chart's totals (02, M-100).
@@ -29,7 +29,7 @@ pub struct Received {
 
 // The first refusal that applies, or none: 1, 2, 5, 4.
 fn judge_take(e: &[u8], out: usize, next: BurstNumber, b: BurstNumber) -> Told
-    ensures { λ r. ⌜ r ≡ takeJudged (both (eqb (length (now (e .entry))) 116) (eqb out 260)) (allBits (now (e .entry))) (leb 65536 (next .0)) (eqb (b .0) (next .0)) ⌝ }
+    ensures { λ r. ⌜ r ≡ takeJudged (both (eqb (length (now (e .entry))) 116) (eqb out 260)) (noneOver 2 (now (e .entry))) (leb 65536 (next .0)) (eqb (b .0) (next .0)) ⌝ }
 {
     if e.len() != 116 {
         return Told::Refused(Refusal::Length);
@@ -37,7 +37,7 @@ fn judge_take(e: &[u8], out: usize, next: BurstNumber, b: BurstNumber) -> Told
     if out != 260 {
         return Told::Refused(Refusal::Length);
     }
-    if !bits::are_bits(e) {
+    if !bits::none_over(e, 2) {
         return Told::Refused(Refusal::NotBits);
     }
     if next.0 >= 65536 {
@@ -54,10 +54,11 @@ fn receive_block(n: BlockNumber, held: &[u8], d: &mut [u8]) -> Taken
     requires { ⌜ (length (now held) ≡ 928) × (length (now d) ≡ 260) ⌝ }
     ensures { λ r. ⌜ Meets (blockAnswer (now (held .entry)) (n .0) (now (d .entry))) r (now (d .exit)) ⌝ }
 {
-    let flags = burst::gather_flags(n, held);
+    let ones = burst::gather_flags(1, n, held);
+    let zeros = burst::gather_flags(0, n, held);
     let mut c = [0u8; 456];
     burst::gather_block(n, held, &mut c);
-    kinds::receive(flags, n, &c, d)
+    kinds::receive(ones, zeros, n, &c, d)
 }
 
 // What burst B brings: the answer for the block that it ends, else nothing yet.
@@ -88,7 +89,7 @@ impl Receiver {
         }
     }
 
-    // Takes burst B, 116 bits; a block that it brings is written to d, 260 bytes.
+    // Takes burst B, 116 bits, of which missing ones are 2; a block that it brings is written to d, 260 bytes.
     pub fn take(mut self, b: BurstNumber, e: &[u8], d: &mut [u8]) -> Received
         ensures { λ r. ⌜ Meets (takeAnswer self (b .0) (now (e .entry)) (now (d .entry))) r (now (d .exit)) ⌝ }
     {

@@ -7,7 +7,7 @@ ghost use mathlib.Core.Bool.{true, false};
 ghost use Prim.Native.Nat.{_≤_};
 ghost use lib.Dec.{eqb, leb};
 ghost use lib.ListN.{length};
-ghost use Rattle.bits.specs.Bits.{Bits, allBits, both};
+ghost use Rattle.bits.specs.Bits.{Bits, noneOver, both};
 ghost use Rattle.answers.specs.Answers.{Meets};
 ghost use Rattle.places.specs.Places.{four, flagsOf};
 ghost use Rattle.stream.specs.Sending.{freshSender, isFacch, isBlock, blockOf, flagOf, sendJudged, endJudged, sendAnswer, endAnswer};
@@ -39,7 +39,7 @@ fn is_block(n: usize) -> bool
 
 // The first refusal that applies to a send, or none: 1, 2, 7, 5.
 fn judge_send(d: &[u8], out: usize, ended: bool, sent: BlockNumber) -> Told
-    ensures { λ r. ⌜ r ≡ sendJudged (both (isBlock (length (now (d .entry)))) (eqb out 464)) (allBits (now (d .entry))) ended (leb 16383 (sent .0)) ⌝ }
+    ensures { λ r. ⌜ r ≡ sendJudged (both (isBlock (length (now (d .entry)))) (eqb out 464)) (noneOver 1 (now (d .entry))) ended (leb 16383 (sent .0)) ⌝ }
 {
     if !is_block(d.len()) {
         return Told::Refused(Refusal::Length);
@@ -47,7 +47,7 @@ fn judge_send(d: &[u8], out: usize, ended: bool, sent: BlockNumber) -> Told
     if out != 464 {
         return Told::Refused(Refusal::Length);
     }
-    if !bits::are_bits(d) {
+    if !bits::none_over(d, 1) {
         return Told::Refused(Refusal::NotBits);
     }
     if ended {

@@ -3,15 +3,10 @@ use mathlib.Core.List.{List, reverse}
 use mathlib.Core.Logic.{_⊎_}
 use mathlib.Core.Path.{_≡_}
 use Prim.Native.Nat.{ℕ, _+_, _-_, _*_, _/_, _%_, _≤_}
-use lib.Dec.{eqb}
 use lib.ListN.{length, getD, drop}
-use Rattle.bits.specs.Bits.{Bits, pick, tab, zeros, total}
+use Rattle.bits.specs.Bits.{Bits, differ, tab, zeros, total}
 use Rattle.register.specs.Register.{NotAfter, best, walk}
 use Rattle.convolution.specs.Pairs.{coded, pairOf, stateAt}
-
--- does the received byte r disagree with the coded bit x?
-unfoldable pub differ : ℕ → ℕ → ℕ
-differ x r = pick (eqb x r) 0 1
 
 -- in how many places the received list r disagrees with the coded list c
 unfoldable pub disagreements : List ℕ → List ℕ → ℕ

@@ -2,5 +2,6 @@ pub mod Paths
 pub mod Candidates
 pub mod Nearest
 pub mod Distance
+pub mod Missing
 pub mod Steps
 pub mod Memory

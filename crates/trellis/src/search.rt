@@ -1,21 +1,24 @@
 // The search for the nearest block: forward through the rows, back through the choices.
 use crate::LONGEST;
+use crate::steps::all_costs;
 use crate::steps::choices;
+use crate::steps::cost_place;
 use crate::steps::step;
 ghost use mathlib.Core.List.{_++_, reverse};
 ghost use mathlib.Core.Path.{_≡_};
 ghost use Prim.Native.Nat.{_+_, _-_, _*_, _/_, _%_, _^_, _≤_, _<_};
 ghost use lib.ListN.{length, drop};
-ghost use Rattle.bits.specs.Bits.{Bits};
+ghost use Rattle.bits.specs.Bits.{Symbols};
 ghost use Rattle.register.specs.Register.{bit, from};
 ghost use Rattle.trellis.specs.Nearest.{row, nearest, nearestCount, longest};
 ghost use Rattle.trellis.specs.laws.Memory.{Remembers, retrace, bitsOf};
 
 // The row after n pairs, and in `memory` the choices of each.
 fn search(c: &[u8], n: usize, memory: &mut [u16]) -> [u16; 16]
-    requires { ⌜ (length (now c) ≡ 2 * n) × (n ≤ longest) × (length (now memory) ≡ longest) × Bits (now c) ⌝ }
+    requires { ⌜ (length (now c) ≡ 2 * n) × (n ≤ longest) × (length (now memory) ≡ longest) × Symbols (now c) ⌝ }
     ensures { λ r. ⌜ (r ≡ row (now (c .entry)) n) × (Remembers (now (c .entry)) n (now (memory .exit))) ⌝ }
 {
+    let costs = all_costs();
     // of no pairs: state 0 has 0, and no bits end in the others
     let mut row = [
         0,
@@ -37,10 +40,9 @@ fn search(c: &[u8], n: usize, memory: &mut [u16]) -> [u16; 16]
     ];
     let mut k = 0;
     while k < n {
-        let x = c[2 * k];
-        let y = c[2 * k + 1];
-        let next = step(row, x, y);
-        memory[k] = choices(row, x, y);
+        let w = costs[cost_place(c[2 * k], c[2 * k + 1])];
+        memory[k] = choices(row, w);
+        let next = step(row, w);
         row = next;
         k += 1;
     }
@@ -58,9 +60,9 @@ fn newest(s: usize) -> u8
 // The state before s, by its choice in the word.
 fn earlier(s: usize, word: u16) -> usize
     requires { ⌜ s < 16 ⌝ }
-    ensures { λ r. ⌜ (r ≡ from 8 s (word / 2 ^ ((16 - s) % 16) % 2)) × (r < 16) ⌝ }
+    ensures { λ r. ⌜ (r ≡ from 8 s (word / 2 ^ s % 2)) × (r < 16) ⌝ }
 {
-    2 * (s % 8) + (word as usize >> ((16 - s) % 16)) % 2
+    2 * (s % 8) + (word as usize >> s) % 2
 }
 
 // The walk back from state s after t pairs: it writes bit t - 1, and those before it.
@@ -77,7 +79,7 @@ fn walk(memory: &[u16; LONGEST], t: usize, s: usize, u: &mut [u8; LONGEST])
 
 // THE nearest block of n bits, in the first places of u, and in how many places its pairs disagree with c.
 pub fn nearest(c: &[u8], n: usize, u: &mut [u8; LONGEST]) -> u16
-    requires { ⌜ (length (now c) ≡ 2 * n) × (n ≤ longest) × (length (now u) ≡ longest) × Bits (now c) ⌝ }
+    requires { ⌜ (length (now c) ≡ 2 * n) × (n ≤ longest) × (length (now u) ≡ longest) × Symbols (now c) ⌝ }
     ensures { λ r. ⌜ (now (u .exit) ≡ nearest (now (c .entry)) n ++ drop n (now (u .entry))) × (r ≡ nearestCount (now (c .entry)) n) × (length (now (u .exit)) ≡ longest) ⌝ }
 {
     let mut memory = [0u16; LONGEST];
@@ -88,7 +90,7 @@ pub fn nearest(c: &[u8], n: usize, u: &mut [u8; LONGEST]) -> u16
 
 // The sixteen numbers after the pairs of c.
 pub fn view(c: &[u8]) -> [u16; 16]
-    requires { ⌜ (length (now c) ≤ 2 * longest) × (length (now c) % 2 ≡ 0) × Bits (now c) ⌝ }
+    requires { ⌜ (length (now c) ≤ 2 * longest) × (length (now c) % 2 ≡ 0) × Symbols (now c) ⌝ }
     ensures { λ r. ⌜ r ≡ row (now (c .entry)) (length (now (c .entry)) / 2) ⌝ }
 {
     let mut memory = [0u16; LONGEST];

@@ -13,36 +13,36 @@ const ALL: [u8; 117] =
     *b"speech control sacch access sch speech? control? sacch? access? sch? send end take totals fresh lend trellis help why";
 
 // A line for each word, in the same order: what stands after it, and what it answers.
-const HELP: [u8; 1605] = *b"speech D: the 456 coded bits of the 260 bits D
+const HELP: [u8; 1752] = *b"speech D: the 456 coded bits of the 260 bits D
 control D: the 456 coded bits of the 184 bits D
 sacch D: the 464 bits of four bursts that carry the 184 bits D
 access ID D: the 36 bits of an access burst that carries the 8 bits D, for the identity ID
 sch D: the 78 bits of SCH that carry the 25 bits D
-speech? R: of 456 received bits, COUNT and the 260 bits of the nearest block; it disagrees in COUNT places
-control? R: of 456 received bits, COUNT and the 184 bits of the nearest block
-sacch? R: of 464 received bits, COUNT and the 184 bits of the nearest block
-access? ID R: of 36 received bits, COUNT and the 8 bits of the nearest block, as the bench with the identity ID hears it
-sch? R: of 78 received bits, COUNT and the 25 bits of the nearest block
+speech? R: of 456 received bits, 2 for a missing one, COUNT and the 260 bits of the nearest block; it disagrees in COUNT places
+control? R: of 456 received bits, 2 for a missing one, COUNT and the 184 bits of the nearest block
+sacch? R: of 464 received bits, 2 for a missing one, COUNT and the 184 bits of the nearest block
+access? ID R: of 36 received bits, 2 for a missing one, COUNT and the 8 bits of the nearest block, as the bench with the identity ID hears it
+sch? R: of 78 received bits, 2 for a missing one, COUNT and the 25 bits of the nearest block
 send D: the next four bursts of the stream, 464 bits, in which the block D begins: 260 bits are speech, 184 FACCH
 end: the last four bursts of the stream, 464 bits
-take B E: of the 116 bits E of burst B: waiting, or the block N that it ends: speech N COUNT BITS, or facch N COUNT BITS
+take B E: of the 116 bits E of burst B, 2 for a missing one: waiting, or the block N that it ends: speech N COUNT BITS, or facch N COUNT BITS
 totals: four numbers of all that is taken: good speech blocks, good FACCH blocks, blocks refused with 8 or 9, and the summed counts of the good ones
 fresh: fresh; both streams begin anew
 lend N B LINE: what LINE answers when it is lent N bytes, 0 to 600, each the digit B; in the place of its bits stands the whole buffer, or -
-trellis R: of up to 456 received bits, by state: the fewest disagreements of any bits that end there, or 65535; R may be left out
+trellis R: of up to 456 received bits, 2 for a missing one, by state: the fewest disagreements of any bits that end there, or 65535; R may be left out
 help WORD: what stands after WORD, and what it answers; help alone lists the words
 why N: refusal N in words";
 
 // A line for each refusal, from 1 on.
-const REASONS: [u8; 322] = *b"a buffer has the wrong length
-a bit is neither 0 nor 1
+const REASONS: [u8; 353] = *b"a buffer has the wrong length
+a bit is neither 0 nor 1, nor 2 for missing on reception
 the identity is over 63
 the burst is not the next one
 the stream is full: 16383 blocks are sent, or burst 65535 is taken
 nothing was sent before the end
 the stream has ended
 the parity is bad
-four of the eight flags are 1, and the parity is bad as FACCH and as speech";
+as many flags are 1 as are 0, and the parity is bad as FACCH and as speech";
 
 pub fn all_words() -> [u8; 117]
     ensures { λ r. ⌜ 117 ≡ length r ⌝ }
@@ -50,14 +50,14 @@ pub fn all_words() -> [u8; 117]
     ALL
 }
 
-pub fn help_page() -> [u8; 1605]
-    ensures { λ r. ⌜ 1605 ≡ length r ⌝ }
+pub fn help_page() -> [u8; 1752]
+    ensures { λ r. ⌜ 1752 ≡ length r ⌝ }
 {
     HELP
 }
 
-pub fn reasons_page() -> [u8; 322]
-    ensures { λ r. ⌜ 322 ≡ length r ⌝ }
+pub fn reasons_page() -> [u8; 353]
+    ensures { λ r. ⌜ 353 ≡ length r ⌝ }
 {
     REASONS
 }

@@ -1,15 +1,18 @@
-//! The cable: alters the bursts of an ended stream, block by block and burst by burst.
+//! The cable: alters and loses bits of an ended stream, block by block and burst by burst.
 
 use crate::chance::lists::{self, random_bits};
+use crate::chance::losses;
 use crate::chance::random::Random;
 use crate::model::bits::inverted;
 use crate::model::burst::Interleaving::Diagonal;
 use crate::model::burst::BURST;
+use crate::model::missing::MISSING;
 
-/// What alters the bursts of an ended stream.
+/// What alters the bursts of an ended stream, or loses them.
 pub type Cable = fn(&mut Random, &mut [Vec<u8>]);
 
-/// The cable of a lesson: quiet and noisy stretches, altered flags, bad bursts.
+/// The cable of a lesson: quiet and noisy stretches, altered and missing flags, bad and missing
+/// bursts.
 pub fn lesson(random: &mut Random, bursts: &mut [Vec<u8>]) {
     let mut noisy = random.one_in(3);
     for n in 0..blocks(bursts) {
@@ -24,19 +27,26 @@ pub fn lesson(random: &mut Random, bursts: &mut [Vec<u8>]) {
             if number == 4 && random.one_in(2) {
                 drown(random, c);
             }
+            match random.below(20) {
+                0 => losses::lose_some(random, c),
+                1 => losses::lose_some(random, flags),
+                _ => {}
+            }
         });
     }
     for burst in 0..bursts.len() {
         match random.below(120) {
             0..=2 => spoil_burst(random, bursts, burst),
             3 => silence(random, bursts, burst),
+            4 | 5 => bursts[burst].fill(MISSING),
+            6 => pull(random, bursts, burst),
             _ => {}
         }
     }
 }
 
-/// The cable of a lesson on ties: of most blocks four flags are 1, of the others some other number,
-/// whatever the kind. The bits are quiet, noisy or such as no one sent.
+/// The cable of a lesson on ties: of most blocks as many flags are 1 as are 0, of the others more or
+/// fewer, whatever the kind. The bits are quiet, noisy or such as no one sent.
 pub fn ties(random: &mut Random, bursts: &mut [Vec<u8>]) {
     for n in 0..blocks(bursts) {
         change_block(bursts, n, |c, flags| {
@@ -45,15 +55,77 @@ pub fn ties(random: &mut Random, bursts: &mut [Vec<u8>]) {
                 6 | 7 => noisy_bits(random, c),
                 _ => c.copy_from_slice(&lists::unsent(random, c.len())),
             }
-            flags.fill(0);
-            let ones = random.pick(&[4, 4, 4, 4, 4, 4, 0, 3, 5, 8]);
-            lists::alter(random, flags, ones);
+            flags.copy_from_slice(&any_votes(random));
         });
     }
 }
 
-/// The cable of a long stream: few bits and flags altered now and then, a block drowned or a burst
-/// bad seldom.
+/// Eight flags of which mostly as many are 1 as are 0.
+fn any_votes(random: &mut Random) -> Vec<u8> {
+    match random.below(20) {
+        0..=8 => losses::flags_of(random, 4, 4),
+        9..=11 => losses::equal_flags(random),
+        12 | 13 => losses::nearly_equal_flags(random),
+        _ => {
+            let (ones, zeros) = random.pick(&[(0, 8), (3, 5), (5, 3), (8, 0)]);
+            losses::flags_of(random, ones, zeros)
+        }
+    }
+}
+
+/// The cable of a lesson on what is missing: bits and flags altered and lost round the weight up to
+/// which they are borne, single bursts that never come, and a cable that is pulled.
+pub fn missing(random: &mut Random, bursts: &mut [Vec<u8>]) {
+    for n in 0..blocks(bursts) {
+        change_block(bursts, n, |c, flags| {
+            lose_bits(random, c);
+            lose_flags(random, flags);
+        });
+    }
+    for burst in 0..bursts.len() {
+        match random.below(200) {
+            0..=3 => bursts[burst].fill(MISSING),
+            4 => pull(random, bursts, burst),
+            _ => {}
+        }
+    }
+}
+
+/// Loses bits of a block: mostly round the weight that is borne, among bits that are protected in
+/// speech too.
+fn lose_bits(random: &mut Random, c: &mut [u8]) {
+    match random.below(12) {
+        0..=5 => {
+            let weight = random.pick(&[1, 4, 5, 6, 6, 6, 7, 7, 8]);
+            losses::damage(random, &mut c[..378], weight);
+        }
+        6 => losses::lose_some(random, &mut c[378..]),
+        7 => losses::lose_some(random, c),
+        8 => {
+            noisy_bits(random, c);
+            losses::lose_some(random, c);
+        }
+        9 => c.copy_from_slice(&lists::unsent(random, c.len())),
+        _ => {}
+    }
+}
+
+/// Loses flags of a block: mostly round the weight that is borne.
+fn lose_flags(random: &mut Random, flags: &mut [u8]) {
+    match random.below(10) {
+        0..=4 => {
+            let weight = random.pick(&[1, 5, 6, 7, 7, 7, 8, 8]);
+            losses::damage(random, flags, weight);
+        }
+        5 => flags.copy_from_slice(&losses::equal_flags(random)),
+        6 => flags.copy_from_slice(&losses::nearly_equal_flags(random)),
+        7 => flags.fill(MISSING),
+        _ => {}
+    }
+}
+
+/// The cable of a long stream: few bits and flags altered or lost now and then, a block drowned or a
+/// burst bad or missing seldom.
 pub fn light(random: &mut Random, bursts: &mut [Vec<u8>]) {
     for n in 0..blocks(bursts) {
         change_block(bursts, n, |c, flags| match random.below(100) {
@@ -64,12 +136,17 @@ pub fn light(random: &mut Random, bursts: &mut [Vec<u8>]) {
                 lists::alter(random, flags, 4);
                 drown(random, c);
             }
+            16 => lose_bits(random, c),
+            17 => lose_flags(random, flags),
             _ => {}
         });
     }
     for burst in 0..bursts.len() {
-        if random.one_in(1000) {
-            spoil_burst(random, bursts, burst);
+        match random.below(1000) {
+            0 => spoil_burst(random, bursts, burst),
+            1 => bursts[burst].fill(MISSING),
+            2 => pull(random, bursts, burst),
+            _ => {}
         }
     }
 }
@@ -140,16 +217,26 @@ fn spoil_burst(random: &mut Random, bursts: &mut [Vec<u8>], burst: usize) {
 
 /// The cable is off for some bursts, which are all zeros.
 fn silence(random: &mut Random, bursts: &mut [Vec<u8>], first: usize) {
+    fill_some(random, bursts, first, 0);
+}
+
+/// The cable is pulled for some bursts, which never come.
+fn pull(random: &mut Random, bursts: &mut [Vec<u8>], first: usize) {
+    fill_some(random, bursts, first, MISSING);
+}
+
+/// Two bursts or some more have this byte in all of their places.
+fn fill_some(random: &mut Random, bursts: &mut [Vec<u8>], first: usize, byte: u8) {
     let last = bursts.len().min(first + 2 + random.below(8));
     for e in &mut bursts[first..last] {
-        e.fill(0);
+        e.fill(byte);
     }
 }
 
 #[cfg(test)]
 mod tests {
     use super::*;
-    use crate::model::bits::ones;
+    use crate::model::bits::{self, ones};
     use crate::model::channel::{Channel, CONTROL, NO_IDENTITY, SPEECH};
 
     /// The bursts of so many blocks, all zeros.
@@ -161,7 +248,7 @@ mod tests {
     fn bursts_stay_bursts() {
         let mut random = Random::new(71);
         for number in 0..20 {
-            for cable in [lesson, ties, light] {
+            for cable in [lesson, ties, missing, light] {
                 let mut bursts = if number == 0 {
                     Vec::new()
                 } else {
@@ -171,7 +258,7 @@ mod tests {
                 cable(&mut random, &mut bursts);
                 assert_eq!(bursts.len(), length);
                 assert!(bursts.iter().all(|e| e.len() == BURST));
-                assert!(bursts.concat().iter().all(|&bit| bit <= 1));
+                assert!(bursts.concat().iter().all(|&bit| bit <= MISSING));
             }
         }
     }
@@ -222,13 +309,76 @@ mod tests {
     fn most_blocks_tie_on_the_cable_of_ties() {
         let mut bursts = zeros(1000);
         ties(&mut Random::new(187), &mut bursts);
-        let mut seen = [0; 9];
+        let mut seen = [[0; 9]; 9];
         for n in 0..1000 {
-            seen[ones(&Diagonal(n).flags(&bursts))] += 1;
+            let flags = Diagonal(n).flags(&bursts);
+            seen[ones(&flags)][bits::zeros(&flags)] += 1;
         }
-        assert!(seen[4] > 500, "{:?}", seen);
-        assert!([0, 3, 5, 8].iter().all(|&ones| seen[ones] > 50));
-        assert!([1, 2, 6, 7].iter().all(|&ones| seen[ones] == 0));
+        let times = |votes: &[(usize, usize)]| -> Vec<usize> {
+            votes
+                .iter()
+                .map(|&(ones, zeros)| seen[ones][zeros])
+                .collect()
+        };
+        assert!(seen[4][4] > 400, "{:?}", seen);
+        let others = [(0, 8), (3, 5), (5, 3), (8, 0)];
+        let equal = [(0, 0), (1, 1), (2, 2), (3, 3)];
+        let nearly = [
+            (0, 1),
+            (1, 2),
+            (2, 3),
+            (3, 4),
+            (1, 0),
+            (2, 1),
+            (3, 2),
+            (4, 3),
+        ];
+        assert!(times(&others).iter().all(|&times| times > 25), "{:?}", seen);
+        assert!(times(&equal).iter().all(|&times| times > 15), "{:?}", seen);
+        assert!(times(&nearly).iter().all(|&times| times > 3), "{:?}", seen);
+    }
+
+    /// How many bits of a list are missing.
+    fn missing_of(list: &[u8]) -> usize {
+        list.iter().filter(|&&bit| bit == MISSING).count()
+    }
+
+    #[test]
+    fn every_weight_round_what_is_borne_is_on_the_cable_of_what_is_missing() {
+        let mut bursts = zeros(4000);
+        missing(&mut Random::new(218), &mut bursts);
+        let (mut of_bits, mut of_flags) = ([[0; 9]; 5], [[0; 9]; 5]);
+        for n in 0..4000 {
+            let (c, flags) = (Diagonal(n).bits(&bursts), Diagonal(n).flags(&bursts));
+            for (list, seen) in [(&c[..378], &mut of_bits), (&flags[..], &mut of_flags)] {
+                let (altered, missing) = (ones(list), missing_of(list));
+                if altered < 5 && missing < 9 {
+                    seen[altered][missing] += 1;
+                }
+            }
+        }
+        for altered in 0..=3 {
+            for weight in [6, 7] {
+                let missing = weight - 2 * altered;
+                assert!(of_bits[altered][missing] > 30, "{} {}", altered, missing);
+            }
+            for weight in [7, 8] {
+                let missing = weight - 2 * altered;
+                assert!(of_flags[altered][missing] > 30, "{} {}", altered, missing);
+            }
+        }
+    }
+
+    #[test]
+    fn bursts_never_come_by_themselves_and_one_after_another() {
+        let mut bursts = zeros(1000);
+        missing(&mut Random::new(219), &mut bursts);
+        let lost: Vec<bool> = bursts.iter().map(|e| missing_of(e) == BURST).collect();
+        let alone = lost
+            .windows(3)
+            .filter(|three| *three == [false, true, false]);
+        let together = lost.windows(4).filter(|four| *four == [true; 4]);
+        assert!(alone.count() > 40 && together.count() > 20);
     }
 
     #[test]

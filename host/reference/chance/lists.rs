@@ -3,6 +3,7 @@
 use crate::chance::random::Random;
 use crate::model::bits::{ones, ones_at};
 use crate::model::coding::convolve;
+use crate::model::missing::{turned_over, MISSING};
 
 /// Random bits.
 pub fn random_bits(random: &mut Random, length: usize) -> Vec<u8> {
@@ -19,23 +20,42 @@ fn choose(random: &mut Random, mut indices: Vec<usize>, number: usize) -> Vec<us
     chosen
 }
 
-/// Turns over so many of the bits at the indices.
-fn turn_over(random: &mut Random, list: &mut [u8], indices: Vec<usize>, number: usize) {
-    for k in choose(random, indices, number) {
-        list[k] = 1 - list[k];
+/// Turns over the bits at the indices.
+fn turn_over(list: &mut [u8], indices: &[usize]) {
+    for &k in indices {
+        list[k] = turned_over(list[k]);
     }
 }
 
-/// Alters so many bits of a list, anywhere in it or all within a short stretch.
-pub fn alter(random: &mut Random, list: &mut [u8], number: usize) {
-    let whole = list.len();
+/// So many indices of a list of this length, anywhere in it or all within a short stretch.
+fn some_indices(random: &mut Random, whole: usize, number: usize) -> Vec<usize> {
     let stretch = if random.one_in(4) {
         whole.min(2 * number + 2)
     } else {
         whole
     };
     let first = random.below(whole - stretch + 1);
-    turn_over(random, list, (first..first + stretch).collect(), number);
+    choose(random, (first..first + stretch).collect(), number)
+}
+
+/// Alters so many bits of a list, and so many others are missing then.
+pub fn alter_and_lose(random: &mut Random, list: &mut [u8], altered: usize, missing: usize) {
+    let indices = some_indices(random, list.len(), altered + missing);
+    let (altered, missing) = indices.split_at(altered.min(indices.len()));
+    turn_over(list, altered);
+    for &k in missing {
+        list[k] = MISSING;
+    }
+}
+
+/// Alters so many bits of a list.
+pub fn alter(random: &mut Random, list: &mut [u8], number: usize) {
+    alter_and_lose(random, list, number, 0);
+}
+
+/// Loses so many bits of a list, which are missing then.
+pub fn lose(random: &mut Random, list: &mut [u8], number: usize) {
+    alter_and_lose(random, list, 0, number);
 }
 
 /// n bits, the last four 0, with an even number of ones that stand near each other.
@@ -65,7 +85,7 @@ pub fn move_midway(random: &mut Random, list: &mut [u8], n: usize) {
     let difference = convolve(&short_difference(random, n));
     let places = ones_at(&difference);
     let half = places.len() / 2;
-    turn_over(random, list, places, half);
+    turn_over(list, &choose(random, places, half));
 }
 
 /// All zeros or all ones, with a few bits turned over.
@@ -83,18 +103,28 @@ pub fn pattern(random: &mut Random, length: usize) -> Vec<u8> {
     (0..length).map(|k| bits[k % period]).collect()
 }
 
-/// A list that no one sent: all alike but for a few, a pattern, or random.
+/// A list that no one sent: all alike but for a few, a pattern, random, or mostly missing.
 pub fn unsent(random: &mut Random, length: usize) -> Vec<u8> {
-    match random.below(3) {
+    match random.below(4) {
         0 => few_turned(random, length),
         1 => pattern(random, length),
-        _ => random_bits(random, length),
+        2 => random_bits(random, length),
+        _ => mostly_missing(random, length),
     }
+}
+
+/// Bits of which so many are missing that few are left, or none.
+fn mostly_missing(random: &mut Random, length: usize) -> Vec<u8> {
+    let mut list = random_bits(random, length);
+    let left = random.pick(&[0, 1, 2, 5, 10, 20]).min(length);
+    lose(random, &mut list, length - left);
+    list
 }
 
 #[cfg(test)]
 mod tests {
     use super::*;
+    use crate::model::bits::zeros;
 
     #[test]
     fn so_many_bits_are_altered() {
@@ -111,6 +141,36 @@ mod tests {
         alter(&mut random, &mut list, 20);
         assert_eq!(list, [1; 8]);
         alter(&mut random, &mut [], 20);
+    }
+
+    #[test]
+    fn so_many_bits_are_altered_and_so_many_others_missing() {
+        let mut random = Random::new(209);
+        for altered in 0..=8 {
+            for missing in 0..=8 - altered {
+                let mut list = vec![0; 8];
+                alter_and_lose(&mut random, &mut list, altered, missing);
+                assert_eq!(ones(&list), altered);
+                assert_eq!(zeros(&list), 8 - altered - missing);
+            }
+        }
+        let mut list = vec![0; 8];
+        lose(&mut random, &mut list, 20);
+        assert_eq!(list, [MISSING; 8]);
+        // A bit that is missing is not altered.
+        alter(&mut random, &mut list, 8);
+        assert_eq!(list, [MISSING; 8]);
+    }
+
+    #[test]
+    fn few_bits_are_left_where_most_are_missing() {
+        let mut random = Random::new(210);
+        let left = |list: &[u8]| ones(list) + zeros(list);
+        for length in [0, 1, 8, 116] {
+            for _ in 0..50 {
+                assert!(left(&mostly_missing(&mut random, length)) <= length.min(20));
+            }
+        }
     }
 
     #[test]

@@ -43,29 +43,38 @@ pub fn other_than(right: usize, length: usize) -> usize {
     }
 }
 
-/// A character that is no bit; a space would part the argument, a newline the line.
-pub fn wrong_character(random: &mut Random) -> u8 {
+/// Digits that are refused where bits are sent, the lowest of them mostly.
+pub const WRONG_WHERE_SENT: &[u8] = b"222222223456789";
+
+/// Digits that are refused where bits are received: 2 is a missing bit there.
+pub const WRONG_WHERE_RECEIVED: &[u8] = b"33333333456789";
+
+/// A character that is no bit, one of these digits or another; a space would part the argument, a
+/// newline the line.
+pub fn wrong_character(random: &mut Random, digits: &[u8]) -> u8 {
     match random.below(4) {
-        0 => random.pick(b"23456789"),
+        0 => random.pick(digits),
         1 => random.pick(&[0, 1, 9, 11, 13, 31, 47, 58, 127, 128, 176, 177, 255]),
         2 => 128 + random.below(128) as u8,
         _ => random.pick(b"abloOIxyzABZ+-.,!_~"),
     }
 }
 
-/// Puts wrong characters at the first, at the last, at a few or at all indices.
-pub fn spoil(random: &mut Random, bits: &mut [u8]) {
+/// Puts wrong characters at the first, at the last, at a few or at all indices; or the same digit at
+/// all of them.
+pub fn spoil(random: &mut Random, bits: &mut [u8], digits: &[u8]) {
     if bits.is_empty() {
         return;
     }
     let last = bits.len() - 1;
     match random.below(8) {
-        0 => bits[0] = wrong_character(random),
-        1 => bits[last] = wrong_character(random),
-        2 => bits.fill_with(|| wrong_character(random)),
+        0 => bits[0] = wrong_character(random, digits),
+        1 => bits[last] = wrong_character(random, digits),
+        2 => bits.fill_with(|| wrong_character(random, digits)),
+        3 => bits.fill(random.pick(digits)),
         _ => {
             for _ in 0..=random.below(3) {
-                bits[random.below(last + 1)] = wrong_character(random);
+                bits[random.below(last + 1)] = wrong_character(random, digits);
             }
         }
     }
@@ -223,8 +232,26 @@ mod tests {
     #[test]
     fn wrong_characters_are_no_bits_and_part_nothing() {
         let mut random = Random::new(93);
-        for _ in 0..5000 {
-            assert!(!b"01 \n".contains(&wrong_character(&mut random)));
+        for (digits, right) in [
+            (WRONG_WHERE_SENT, &b"01 \n"[..]),
+            (WRONG_WHERE_RECEIVED, b"012 \n"),
+        ] {
+            for _ in 0..5000 {
+                assert!(!right.contains(&wrong_character(&mut random, digits)));
+            }
+        }
+    }
+
+    #[test]
+    fn every_wrong_digit_comes_the_lowest_more_than_the_others() {
+        let mut random = Random::new(224);
+        for (digits, lowest) in [(WRONG_WHERE_SENT, b'2'), (WRONG_WHERE_RECEIVED, b'3')] {
+            let made: Vec<u8> = (0..4000)
+                .map(|_| wrong_character(&mut random, digits))
+                .collect();
+            let times = |digit: u8| made.iter().filter(|&&other| other == digit).count();
+            assert!((lowest..=b'9').all(|digit| times(digit) > 20));
+            assert!(times(lowest) > 300);
         }
     }
 

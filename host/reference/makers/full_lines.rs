@@ -54,6 +54,7 @@ fn after_the_last(bursts: &[Vec<u8>]) -> Vec<Vec<u8>> {
         lent(260, &take_bits(0, &bursts[0])),
         take_bits(0, &bursts[0][1..]),
         take(b"0", &[b'2'; 116]),
+        take(b"0", &[b'3'; 116]),
     ]
 }
 
@@ -96,7 +97,7 @@ mod tests {
     #[test]
     fn the_full_stream_is_taken_to_burst_65535() {
         let lines = lines(&mut Random::new(91));
-        assert_eq!(lines.len(), 2 + 16_383 + 13 + 1 + 65_536 + 1 + 5 + 1);
+        assert_eq!(lines.len(), 2 + 16_383 + 13 + 1 + 65_536 + 1 + 6 + 1);
         for number in [0, 1, 9_999, 65_535] {
             let start = format!("take {} ", number);
             assert!(lines[16_399 + number].starts_with(start.as_bytes()));
@@ -111,7 +112,7 @@ mod tests {
         let asked: Vec<usize> = (0..lines.len())
             .filter(|&k| lines[k] == b"totals")
             .collect();
-        assert_eq!(asked, [1, 16_398, 81_935, 81_941]);
-        assert_eq!(lines.len(), 81_942);
+        assert_eq!(asked, [1, 16_398, 81_935, 81_942]);
+        assert_eq!(lines.len(), 81_943);
     }
 }

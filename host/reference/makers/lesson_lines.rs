@@ -89,7 +89,7 @@ fn next(
 }
 
 /// Bursts that no one sent, taken after the others, with refused calls in between.
-fn beyond(random: &mut Random, lesson: &mut Lesson, number: usize) -> Vec<Vec<u8>> {
+pub fn beyond(random: &mut Random, lesson: &mut Lesson, number: usize) -> Vec<Vec<u8>> {
     let mut lines = Vec::new();
     for _ in 0..number {
         lines.push(refused_calls::line(random, lesson));

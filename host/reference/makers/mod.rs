@@ -6,6 +6,7 @@ mod help_lines;
 mod lend_lines;
 mod lesson;
 mod lesson_lines;
+mod missing_lines;
 mod received_lines;
 mod refused_calls;
 mod request;
@@ -13,6 +14,8 @@ mod sent_lines;
 mod sheet_lines;
 #[cfg(test)]
 mod sorts;
+#[cfg(test)]
+mod taken_blocks;
 mod ties_lines;
 mod totals_lines;
 mod view_lines;
@@ -33,7 +36,7 @@ pub struct Maker {
 }
 
 /// All makers.
-pub static MAKERS: [Maker; 12] = [
+pub static MAKERS: [Maker; 13] = [
     Maker {
         mode: "make-lines",
         numbers: "SEED COUNT",
@@ -87,6 +90,12 @@ pub static MAKERS: [Maker; 12] = [
         numbers: "SEED COUNT",
         with_returns: false,
         lines: ties_lines::lines,
+    },
+    Maker {
+        mode: "make-missing",
+        numbers: "SEED COUNT",
+        with_returns: false,
+        lines: missing_lines::lines,
     },
     Maker {
         mode: "make-windows",

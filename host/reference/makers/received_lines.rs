@@ -1,8 +1,8 @@
 //! Random kit lines that receive: more than half are decoded, the others are wrong in every way
 //! foreseen.
 
-use crate::chance::lists;
 use crate::chance::random::Random;
+use crate::chance::{lists, losses};
 use crate::makers::fields;
 use crate::makers::request::Request;
 use crate::model::bits::add;
@@ -38,11 +38,43 @@ fn any(random: &mut Random) -> Request {
 /// A request that will be decoded, with a good verdict or a bad one.
 fn decoded(random: &mut Random, channel: &Channel) -> Request {
     let sender = random.below(64);
-    let receiver = receiver_of(random, sender);
     let c = coded_list(random, channel, sender);
+    receiving(random, channel, sender, c)
+}
+
+/// The request to receive coded bits of a sender.
+fn receiving(random: &mut Random, channel: &Channel, sender: usize, c: Vec<u8>) -> Request {
+    let receiver = receiver_of(random, sender);
     let list = as_sent(random, channel, c);
     let identity = fields::number_of(random, receiver);
     Request::receiving(channel, identity, text::characters(&list))
+}
+
+/// A line of any channel that will be decoded, though some of its bits are missing or, now and then,
+/// have only been altered.
+pub fn with_missing(random: &mut Random) -> Vec<u8> {
+    let channel = random.pick(&CHANNELS);
+    let sender = random.below(64);
+    let mut c = coded(random, &channel, sender);
+    match random.below(8) {
+        0..=3 => damage(random, &channel, &mut c),
+        4 => {
+            lists::move_midway(random, &mut c, channel.pairs);
+            losses::lose_some(random, &mut c);
+        }
+        5 => {
+            alter_some(random, &mut c);
+            losses::lose_some(random, &mut c);
+        }
+        _ => losses::lose_some(random, &mut c),
+    }
+    receiving(random, &channel, sender, c).line()
+}
+
+/// Alters and loses protected bits, round the weight that is borne.
+fn damage(random: &mut Random, channel: &Channel, c: &mut [u8]) {
+    let weight = random.pick(&[1, 3, 5, 6, 6, 6, 7, 7, 8]);
+    losses::damage(random, &mut c[..channel.protected()], weight);
 }
 
 /// The sender's identity mostly, or one that differs in one bit, or any.
@@ -58,9 +90,9 @@ fn receiver_of(random: &mut Random, sender: usize) -> usize {
 fn coded_list(random: &mut Random, channel: &Channel, sender: usize) -> Vec<u8> {
     let mut list = coded(random, channel, sender);
     match random.below(20) {
-        0 => return lists::random_bits(random, list.len()),
-        1 => return lists::few_turned(random, list.len()),
-        2 => return lists::pattern(random, list.len()),
+        0 => list = lists::random_bits(random, list.len()),
+        1 => list = lists::few_turned(random, list.len()),
+        2 => list = lists::pattern(random, list.len()),
         3..=5 => {
             lists::move_midway(random, &mut list, channel.pairs);
             alter_few(random, &mut list);
@@ -70,6 +102,9 @@ fn coded_list(random: &mut Random, channel: &Channel, sender: usize) -> Vec<u8> 
             alter_few(random, &mut list);
         }
         _ => alter_some(random, &mut list),
+    }
+    if random.one_in(5) {
+        losses::lose_some(random, &mut list);
     }
     list
 }
@@ -108,16 +143,19 @@ fn spoil_parity(random: &mut Random, channel: &Channel, list: &mut [u8]) {
     add(list, &convolve(&u));
 }
 
-/// The coded bits, on four bursts where the channel has flags: all 1, all 0 or random.
+/// The coded bits, on four bursts where the channel has flags: all 1, all 0, random or missing.
 fn as_sent(random: &mut Random, channel: &Channel, c: Vec<u8>) -> Vec<u8> {
     if channel.flags.is_none() {
         return c;
     }
-    let flags = match random.below(4) {
+    let mut flags = match random.below(4) {
         0 => lists::random_bits(random, 8),
         1 => vec![0; 8],
         _ => vec![1; 8],
     };
+    if random.one_in(4) {
+        losses::lose_some(random, &mut flags);
+    }
     on_four_bursts(&c, &flags)
 }
 
@@ -153,7 +191,7 @@ fn change_length(random: &mut Random, request: &mut Request) {
 fn wrong_flag(random: &mut Random) -> Vec<u8> {
     let mut request = decoded(random, &SACCH);
     let flag = 116 * random.below(4) + 57 + random.below(2);
-    request.bits[flag] = fields::wrong_character(random);
+    request.bits[flag] = fields::wrong_character(random, fields::WRONG_WHERE_RECEIVED);
     request.line()
 }
 
@@ -199,6 +237,7 @@ fn sending_word(random: &mut Random) -> Vec<u8> {
 mod tests {
     use super::*;
     use crate::kit::answer;
+    use crate::makers::each;
     use crate::makers::sorts::{all_are, answers, times};
 
     /// The answer of a decoding: a good block, or refusal 8.
@@ -233,6 +272,43 @@ mod tests {
             let good = answers.iter().filter(|answer| is_good(answer)).count();
             assert!(good > 10 && good < 45, "{} {}", channel.name, good);
         }
+    }
+
+    /// The bits of a line, and how many of them are missing.
+    fn bits_and_missing(line: &[u8]) -> (&[u8], usize) {
+        let bits = line.rsplit(|&byte| byte == b' ').next().unwrap();
+        let missing = bits.iter().filter(|&&bit| bit == b'2').count();
+        (bits, missing)
+    }
+
+    #[test]
+    fn missing_bits_are_decoded_well_and_badly() {
+        let lines = each(&mut Random::new(226), 600, with_missing);
+        for channel in CHANNELS {
+            let word = format!("{}? ", channel.name);
+            let of_channel = lines
+                .iter()
+                .filter(|line| line.starts_with(word.as_bytes()));
+            let (mut good, mut bad, mut all_missing) = (0, 0, 0);
+            for line in of_channel {
+                let (bits, missing) = bits_and_missing(line);
+                let answer = answer(line);
+                assert!(is_decoded(&answer), "{}", answer);
+                good += usize::from(missing > 0 && is_good(&answer));
+                bad += usize::from(missing > 0 && !is_good(&answer));
+                // The flags of four bursts may have come.
+                all_missing += usize::from(missing + 8 >= bits.len());
+            }
+            assert!(good > 20 && bad > 10 && all_missing > 2, "{}", word);
+        }
+    }
+
+    #[test]
+    fn one_in_four_of_the_decoded_lines_has_missing_bits() {
+        let lines = each(&mut Random::new(227), 1000, |random| any(random).line());
+        let lossy = lines.iter().filter(|line| bits_and_missing(line).1 > 0);
+        let number = lossy.count();
+        assert!((150..=350).contains(&number), "{}", number);
     }
 
     #[test]

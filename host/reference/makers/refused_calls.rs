@@ -31,7 +31,7 @@ pub fn refused_by_sender(random: &mut Random, lesson: &Lesson) -> Vec<u8> {
 /// Refusal 2: a block with wrong characters.
 fn spoiled_block(random: &mut Random) -> Vec<u8> {
     let mut d = block(random, 2);
-    fields::spoil(random, &mut d);
+    fields::spoil(random, &mut d, fields::WRONG_WHERE_SENT);
     d
 }
 
@@ -65,7 +65,7 @@ fn another_length(random: &mut Random, right: usize) -> usize {
 fn some_spoiled(random: &mut Random, length: usize) -> Vec<u8> {
     let mut characters = fields::good_bits(random, length);
     if random.one_in(4) {
-        fields::spoil(random, &mut characters);
+        fields::spoil(random, &mut characters, fields::WRONG_WHERE_SENT);
     }
     characters
 }
@@ -113,9 +113,10 @@ fn burst_of_wrong_length(random: &mut Random) -> Vec<u8> {
 fn spoiled_burst(random: &mut Random, lesson: &Lesson) -> Vec<u8> {
     let mut e = lesson.some_burst(random);
     if random.one_in(4) {
-        e[57 + random.below(2)] = fields::wrong_character(random);
+        let wrong = fields::wrong_character(random, fields::WRONG_WHERE_RECEIVED);
+        e[57 + random.below(2)] = wrong;
     } else {
-        fields::spoil(random, &mut e);
+        fields::spoil(random, &mut e, fields::WRONG_WHERE_RECEIVED);
     }
     e
 }

@@ -1,8 +1,10 @@
 //! A verb's line in its parts, and the ways in which it may be wrong.
 
+use crate::chance::losses;
 use crate::chance::random::Random;
 use crate::makers::fields;
 use crate::model::channel::Channel;
+use crate::text;
 
 /// A verb's word and its arguments.
 pub struct Request {
@@ -10,31 +12,36 @@ pub struct Request {
     /// For a channel that has one.
     identity: Option<Vec<u8>>,
     pub bits: Vec<u8>,
+    /// Digits that are refused among the bits.
+    wrong_digits: &'static [u8],
 }
 
 impl Request {
-    /// A verb that reads bits alone.
-    pub fn of_bits(word: &str, bits: Vec<u8>) -> Request {
+    /// A verb that reads received bits alone.
+    pub fn of_received(word: &str, bits: Vec<u8>) -> Request {
         Request {
             word: word.as_bytes().to_vec(),
             identity: None,
             bits,
+            wrong_digits: fields::WRONG_WHERE_RECEIVED,
         }
     }
 
-    /// A block to be sent; the identity is left out where the channel has none.
-    pub fn sending(channel: &Channel, identity: Vec<u8>, bits: Vec<u8>) -> Request {
+    /// A block to be received; the identity is left out where the channel has none.
+    pub fn receiving(channel: &Channel, identity: Vec<u8>, bits: Vec<u8>) -> Request {
         Request {
             identity: channel.has_identity.then_some(identity),
-            ..Request::of_bits(channel.name, bits)
+            ..Request::of_received(&format!("{}?", channel.name), bits)
         }
     }
 
-    /// A block to be received.
-    pub fn receiving(channel: &Channel, identity: Vec<u8>, bits: Vec<u8>) -> Request {
-        let mut request = Request::sending(channel, identity, bits);
-        request.word.push(b'?');
-        request
+    /// A block to be sent.
+    pub fn sending(channel: &Channel, identity: Vec<u8>, bits: Vec<u8>) -> Request {
+        Request {
+            word: channel.name.as_bytes().to_vec(),
+            wrong_digits: fields::WRONG_WHERE_SENT,
+            ..Request::receiving(channel, identity, bits)
+        }
     }
 
     /// The same under another identity; nothing changes for a channel that has none.
@@ -66,9 +73,21 @@ impl Request {
         self.line()
     }
 
+    /// Loses some of the bits, which are missing then.
+    pub fn lose_some(&mut self, random: &mut Random) {
+        let mut bits = text::bits(&self.bits);
+        losses::lose_some(random, &mut bits);
+        self.bits = text::characters(&bits);
+    }
+
+    /// Puts wrong characters among the bits.
+    pub fn spoil(&mut self, random: &mut Random) {
+        fields::spoil(random, &mut self.bits, self.wrong_digits);
+    }
+
     /// Refusal 2: wrong characters among the bits.
     pub fn wrong_bits(mut self, random: &mut Random) -> Vec<u8> {
-        fields::spoil(random, &mut self.bits);
+        self.spoil(random);
         self.line()
     }
 
@@ -85,7 +104,7 @@ impl Request {
             change_length(random, &mut self);
         }
         if right_part != 2 {
-            fields::spoil(random, &mut self.bits);
+            self.spoil(random);
         }
         if right_part != 3 {
             self.set_identity(fields::high_identity(random));
@@ -97,7 +116,7 @@ impl Request {
     pub fn bad_number(mut self, random: &mut Random) -> Vec<u8> {
         self.set_identity(fields::no_number(random));
         match random.below(6) {
-            0 => fields::spoil(random, &mut self.bits),
+            0 => self.spoil(random),
             1 => self.bits.push(b'0'),
             _ => {}
         }
@@ -155,6 +174,7 @@ pub type ChangeLength = fn(&mut Random, &mut Request);
 #[cfg(test)]
 mod tests {
     use super::*;
+    use crate::kit::answer;
     use crate::model::channel::{ACCESS, CHANNELS};
 
     #[test]
@@ -169,8 +189,20 @@ mod tests {
             assert_eq!(request.line(), line.as_bytes());
             assert_eq!(request.line_with(b"x").split_at(2).0, b"x ");
         }
-        let view = Request::of_bits("trellis", b"11".to_vec());
+        let view = Request::of_received("trellis", b"11".to_vec());
         assert_eq!(view.line(), b"trellis 11");
+    }
+
+    #[test]
+    fn a_2_is_wrong_where_it_is_sent_alone() {
+        let mut random = Random::new(225);
+        for _ in 0..200 {
+            let bits = vec![b'1'; 8];
+            let sent = Request::sending(&ACCESS, b"7".to_vec(), bits.clone());
+            assert_eq!(answer(&sent.wrong_bits(&mut random)), "refused 2");
+            let received = Request::receiving(&ACCESS, b"7".to_vec(), bits);
+            assert!(!received.wrong_bits(&mut random).contains(&b'2'));
+        }
     }
 
     #[test]
@@ -189,7 +221,7 @@ mod tests {
     #[test]
     fn lines_are_drawn_out() {
         let mut random = Random::new(95);
-        let mut request = Request::of_bits("trellis", b"11".to_vec());
+        let mut request = Request::of_received("trellis", b"11".to_vec());
         request.draw_out(&mut random, 1000);
         assert_eq!(request.line().len(), 1000);
     }

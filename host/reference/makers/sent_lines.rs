@@ -11,7 +11,8 @@ pub fn line(random: &mut Random) -> Vec<u8> {
     match random.below(100) {
         0..=59 => any(random).line(),
         60..=66 => any(random).wrong_length(random, change_length),
-        67..=73 => any(random).wrong_bits(random),
+        67..=71 => any(random).wrong_bits(random),
+        72..=73 => with_missing(random),
         74..=77 => high_identity(random),
         78..=81 => valid(random, &ACCESS).bad_number(random),
         82..=86 => several_wrong(random),
@@ -56,6 +57,13 @@ fn another_length(random: &mut Random, right: usize) -> usize {
 fn change_length(random: &mut Random, request: &mut Request) {
     let length = another_length(random, request.bits.len());
     request.bits = fields::good_bits(random, length);
+}
+
+/// Refusal 2: bits of which some are missing, though nothing is missing of what is sent.
+pub fn with_missing(random: &mut Random) -> Vec<u8> {
+    let mut request = any(random);
+    request.lose_some(random);
+    request.line()
 }
 
 /// Refusal 3: an identity over 63.
@@ -103,7 +111,7 @@ fn long_line(random: &mut Random) -> Vec<u8> {
         _ => {
             request.draw_out(random, length);
             if random.one_in(3) {
-                fields::spoil(random, &mut request.bits);
+                request.spoil(random);
             }
             request.line()
         }
@@ -136,6 +144,7 @@ mod tests {
         let bad_number = |random: &mut Random| valid(random, &ACCESS).bad_number(random);
         all_are(9, 2000, wrong_length, "refused 1");
         all_are(9, 2000, wrong_bits, "refused 2");
+        all_are(9, 2000, with_missing, "refused 2");
         all_are(9, 2000, high_identity, "refused 3");
         all_are(9, 2000, bad_number, "?");
         all_are(9, 2000, wrong_word, "?");

@@ -37,6 +37,15 @@ pub fn all_are(seed: u64, number: usize, sort: impl Fn(&mut Random) -> Vec<u8>, 
     all_pass(seed, number, sort, |line| answer(line) == expected);
 }
 
+/// The fields of the call that a line makes, and the digit of the buffer that it is lent, if any.
+pub fn call(line: &[u8]) -> (Vec<&[u8]>, Option<u8>) {
+    let fields: Vec<&[u8]> = line.split(|&byte| byte == b' ').collect();
+    match fields[..] {
+        [b"lend", _, [digit], ..] => (fields[3..].to_vec(), Some(*digit)),
+        _ => (fields, None),
+    }
+}
+
 /// A call that is done, or a block found bad, whose burst has been taken; the others with a no
 /// leave all as before.
 pub fn is_done(answer: &str) -> bool {

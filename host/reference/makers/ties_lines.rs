@@ -1,5 +1,6 @@
-//! Kit lines of lessons in which most blocks tie: four of their eight flags are 1, so that their
-//! parity tells the kind. Most takes lend a buffer, some a wrong one, and the totals are asked for.
+//! Kit lines of lessons in which most blocks tie: as many of their flags are 1 as are 0, so that
+//! their parity tells the kind. Most takes lend a buffer, some a wrong one, and the totals are asked
+//! for.
 
 use crate::chance::both_kinds::block_of_both_kinds;
 use crate::chance::cable;
@@ -32,7 +33,7 @@ fn lesson(random: &mut Random) -> Vec<Vec<u8>> {
 }
 
 /// The information bits of a block, as characters; one in five has the coded bits of both kinds.
-fn block(random: &mut Random) -> Vec<u8> {
+pub fn block(random: &mut Random) -> Vec<u8> {
     if random.one_in(5) {
         let (speech, facch) = block_of_both_kinds(random);
         characters(random.pick(&[&speech, &facch]))
@@ -45,106 +46,50 @@ fn block(random: &mut Random) -> Vec<u8> {
 mod tests {
     use super::*;
     use crate::kit::answers;
-    use crate::makers::sorts::{is_done, streams_are_left_by_the_refused};
-    use crate::model::bits::ones;
-    use crate::model::burst::Interleaving::Diagonal;
-    use crate::model::channel::{Channel, CONTROL, NO_IDENTITY, SPEECH};
-    use crate::text::bits;
-
-    /// A block whose last burst was taken.
-    struct Block {
-        /// Its number in its stream.
-        n: usize,
-        /// How many of its flags are 1.
-        ones: usize,
-        /// The parity is good as FACCH, and as speech.
-        good: (bool, bool),
-        /// The digit that the lent buffer was full of; nothing where none was lent.
-        lent: Option<u8>,
-        answer: String,
-    }
-
-    /// The burst that a line takes, and the digit that the lent buffer is full of.
-    fn taken(line: &[u8]) -> Option<(Vec<u8>, Option<u8>)> {
-        let fields: Vec<&[u8]> = line.split(|&byte| byte == b' ').collect();
-        match fields[..] {
-            [b"take", _, e] => Some((bits(e), None)),
-            [b"lend", _, [digit], b"take", _, e] => Some((bits(e), Some(*digit))),
-            _ => None,
-        }
-    }
-
-    /// The parity of these coded bits is good on this channel.
-    fn is_good(channel: Channel, c: &[u8]) -> bool {
-        channel.decode(NO_IDENTITY, c, channel.reads).is_ok()
-    }
+    use crate::makers::sorts::streams_are_left_by_the_refused;
+    use crate::makers::taken_blocks::{self, Block};
 
     /// The blocks of four thousand lines.
     fn blocks(seed: u64) -> Vec<Block> {
-        let lines = lines(&mut Random::new(seed), 4000);
-        let mut blocks = Vec::new();
-        let mut bursts = Vec::new();
-        for (line, answer) in lines.iter().zip(answers(&lines)) {
-            if line == b"fresh" {
-                bursts.clear();
-            }
-            let (e, lent) = match taken(line) {
-                Some(taken) if is_done(&answer) => taken,
-                _ => continue,
-            };
-            bursts.push(e);
-            if !answer.starts_with("waiting") {
-                let n = (bursts.len() - 8) / 4;
-                let c = Diagonal(n).bits(&bursts);
-                blocks.push(Block {
-                    n,
-                    ones: ones(&Diagonal(n).flags(&bursts)),
-                    good: (is_good(CONTROL, &c), is_good(SPEECH, &c)),
-                    lent,
-                    answer,
-                });
-            }
-        }
-        blocks
-    }
-
-    /// What the answer begins with, by the flags and the parities.
-    fn words(block: &Block) -> String {
-        let word = match (block.ones, block.good) {
-            (4, (true, _)) | (5..=8, (true, _)) => "facch",
-            (4, (false, true)) | (0..=3, (_, true)) => "speech",
-            (4, (false, false)) => "refused 9",
-            _ => "refused 8",
-        };
-        format!("{} {} ", word, block.n)
+        taken_blocks::blocks(&lines(&mut Random::new(seed), 4000))
     }
 
     #[test]
     fn every_sort_comes_and_is_answered_by_its_flags_and_parities() {
         let blocks = blocks(190);
         for block in &blocks {
-            let answer = format!("{} ", block.answer);
-            assert!(answer.starts_with(&words(block)), "{}", answer);
+            block.is_answered_by_its_votes();
         }
-        // So many ones, a good parity as FACCH and as speech, and how often at least.
-        for (ones, good, least) in [
-            (4, (true, false), 60),
-            (4, (false, true), 60),
-            (4, (false, false), 60),
-            (4, (true, true), 30),
-            (0, (true, true), 3),
-            (3, (true, true), 3),
-            (5, (true, true), 3),
-            (8, (true, true), 3),
-            (3, (true, false), 5),
-            (5, (false, true), 5),
-            (3, (false, false), 5),
-            (5, (false, false), 5),
+        // So many ones and zeros, a good parity as FACCH and as speech, and how often at least.
+        for (votes, good, least) in [
+            ((4, 4), (true, false), 40),
+            ((4, 4), (false, true), 40),
+            ((4, 4), (false, false), 40),
+            ((4, 4), (true, true), 20),
+            ((0, 8), (true, true), 3),
+            ((3, 5), (true, true), 3),
+            ((5, 3), (true, true), 3),
+            ((8, 0), (true, true), 3),
+            ((3, 5), (true, false), 5),
+            ((5, 3), (false, true), 5),
+            ((3, 5), (false, false), 5),
+            ((5, 3), (false, false), 5),
         ] {
-            let is_meant = |block: &&Block| (block.ones, block.good) == (ones, good);
+            let is_meant = |block: &&Block| (block.votes(), block.good) == (votes, good);
             let number = blocks.iter().filter(is_meant).count();
-            assert!(number >= least, "{} {:?}: {}", ones, good, number);
+            assert!(number >= least, "{:?} {:?}: {}", votes, good, number);
         }
+    }
+
+    #[test]
+    fn votes_are_equal_and_nearly_equal_with_flags_missing_too() {
+        let blocks = blocks(230);
+        let number = |is_meant: fn(&&Block) -> bool| blocks.iter().filter(is_meant).count();
+        let with_missing = |block: &&Block| block.ties() && block.votes().0 < 4;
+        assert!(number(with_missing) > 60);
+        assert!(number(|block| block.votes() == (0, 0)) > 8);
+        assert!(number(|block| block.votes().0 == block.votes().1 + 1) > 15);
+        assert!(number(|block| block.votes().1 == block.votes().0 + 1) > 15);
     }
 
     #[test]
@@ -154,7 +99,7 @@ mod tests {
             for count in ["0", "1", "2", "3"] {
                 let is_meant = |block: &&Block| {
                     let words: Vec<&str> = block.answer.split(' ').collect();
-                    block.ones == 4 && words[0] == word && words[2] == count
+                    block.ties() && words[0] == word && words[2] == count
                 };
                 let number = blocks.iter().filter(is_meant).count();
                 assert!(number >= 5, "{} {}: {}", word, count, number);
@@ -165,7 +110,7 @@ mod tests {
     #[test]
     fn a_tie_leaves_of_a_lent_buffer_what_it_does_not_write() {
         let mut seen = [0; 3];
-        for block in blocks(192).iter().filter(|block| block.ones == 4) {
+        for block in blocks(192).iter().filter(|block| block.ties()) {
             // No bits, so that they are seen to be left.
             let digit = match block.lent {
                 Some(digit @ b'2'..=b'9') => digit,
@@ -189,13 +134,14 @@ mod tests {
     #[test]
     fn ties_stand_beside_ties_and_beside_others() {
         let blocks = blocks(193);
-        for other in [0, 3, 4, 5, 8] {
+        for other in [(0, 8), (3, 5), (4, 4), (5, 3), (8, 0)] {
             let are_meant = |two: &&[Block]| {
-                let ones = [two[0].ones, two[1].ones];
-                two[1].n == two[0].n + 1 && (ones == [4, other] || ones == [other, 4])
+                let is_other = two[0].votes() == other || two[1].votes() == other;
+                let ties = two.iter().filter(|block| block.ties()).count();
+                two[1].n == two[0].n + 1 && is_other && ties > usize::from(other == (4, 4))
             };
             let number = blocks.windows(2).filter(are_meant).count();
-            assert!(number > 20, "{}: {}", other, number);
+            assert!(number > 15, "{:?}: {}", other, number);
         }
     }
 

@@ -95,8 +95,8 @@ fn long_line(random: &mut Random) -> Vec<u8> {
 mod tests {
     use super::*;
     use crate::kit::{answer, answers};
-    use crate::makers::sorts::{all_are, streams_are_left_by_the_refused, times};
-    use crate::makers::ties_lines;
+    use crate::makers::sorts::{all_are, call, streams_are_left_by_the_refused, times};
+    use crate::makers::{missing_lines, ties_lines};
 
     #[test]
     fn each_wrong_sort_is_wrong_as_meant() {
@@ -142,8 +142,7 @@ mod tests {
 
     /// The line is one that takes a burst, with a lent buffer or without.
     fn is_take(line: &[u8]) -> bool {
-        let fields: Vec<&[u8]> = line.split(|&byte| byte == b' ').collect();
-        matches!(fields[..], [b"take", ..] | [b"lend", _, _, b"take", ..])
+        call(line).0.first() == Some(&&b"take"[..])
     }
 
     /// What the printed answer to a take adds to the four totals; nothing if it brings no block.
@@ -212,9 +211,11 @@ mod tests {
     }
 
     #[test]
-    fn the_totals_of_ties_are_what_the_printed_answers_add_up_to() {
-        let lines = ties_lines::lines(&mut Random::new(196), 4000);
-        are_added_up(&lines, &answers(&lines), 200);
+    fn the_totals_of_ties_and_of_missing_bits_are_what_the_printed_answers_add_up_to() {
+        for lines in [ties_lines::lines, missing_lines::lines] {
+            let lines = lines(&mut Random::new(196), 4000);
+            are_added_up(&lines, &answers(&lines), 200);
+        }
     }
 
     #[test]

@@ -1,7 +1,7 @@
 //! Random kit lines for the trellis view: more than half are valid.
 
-use crate::chance::lists;
 use crate::chance::random::Random;
+use crate::chance::{lists, losses};
 use crate::makers::fields;
 use crate::makers::request::Request;
 use crate::model::coding::convolve;
@@ -24,7 +24,7 @@ pub fn line(random: &mut Random) -> Vec<u8> {
 
 /// The request to view these characters.
 fn view_of(bits: Vec<u8>) -> Request {
-    Request::of_bits("trellis", bits)
+    Request::of_received("trellis", bits)
 }
 
 /// A view of up to 228 pairs.
@@ -43,20 +43,31 @@ fn pairs(random: &mut Random) -> usize {
     }
 }
 
-/// The bits of t pairs: random, altered, midway, nearly equal, or a pattern.
+/// The bits of t pairs: random, altered, midway, nearly equal, or a pattern; now and then some of
+/// them are missing.
 fn received(random: &mut Random, t: usize) -> Vec<u8> {
     let mut list = convolve(&lists::random_bits(random, t));
     match random.below(10) {
-        0..=2 => return lists::random_bits(random, 2 * t),
-        3 => return lists::few_turned(random, 2 * t),
-        4 => return lists::pattern(random, 2 * t),
+        0..=2 => list = lists::random_bits(random, 2 * t),
+        3 => list = lists::few_turned(random, 2 * t),
+        4 => list = lists::pattern(random, 2 * t),
         5 => lists::move_midway(random, &mut list, t),
         _ => {
             let number = random.pick(&[0, 1, 2, 3, 5, 8, 13, 20]);
             lists::alter(random, &mut list, number);
         }
     }
+    if random.one_in(4) {
+        losses::lose_some(random, &mut list);
+    }
     list
+}
+
+/// A view of bits of which some are missing, where there is a pair at all.
+pub fn with_missing(random: &mut Random) -> Vec<u8> {
+    let mut request = valid(random);
+    request.lose_some(random);
+    request.line()
 }
 
 /// The view of nothing, with an empty argument or with none.
@@ -130,6 +141,8 @@ fn wrong_word(random: &mut Random) -> Vec<u8> {
 #[cfg(test)]
 mod tests {
     use super::*;
+    use crate::kit::answer;
+    use crate::makers::each;
     use crate::makers::sorts::{all_are, answers};
 
     /// The answer gives sixteen numbers.
@@ -152,6 +165,17 @@ mod tests {
         assert!(views.iter().all(|answer| is_view(answer)));
         let views = answers(49, 100, of_nothing);
         assert!(views.iter().all(|answer| is_view(answer)));
+    }
+
+    #[test]
+    fn missing_bits_are_viewed() {
+        let lines = each(&mut Random::new(228), 200, with_missing);
+        assert!(lines.iter().all(|line| is_view(&answer(line))));
+        let lossy = |line: &&Vec<u8>| line.contains(&b'2');
+        assert!(lines.iter().filter(lossy).count() > 180);
+        let lines = each(&mut Random::new(229), 400, |random| valid(random).line());
+        let number = lines.iter().filter(lossy).count();
+        assert!((60..=140).contains(&number), "{}", number);
     }
 
     #[test]

@@ -3,8 +3,8 @@
 
 use crate::chance::random::Random;
 use crate::makers::{
-    each, fields, help_lines, lend_lines, lesson_lines, received_lines, sent_lines, ties_lines,
-    totals_lines, view_lines,
+    each, fields, help_lines, lend_lines, lesson_lines, missing_lines, received_lines, sent_lines,
+    ties_lines, totals_lines, view_lines,
 };
 use crate::page::MARK;
 
@@ -38,14 +38,15 @@ fn of_other_makers(random: &mut Random, count: usize) -> Vec<Vec<u8>> {
 
 /// So many lines of one of the other makers.
 fn of_another_maker(random: &mut Random, number: usize) -> Vec<Vec<u8>> {
-    match random.below(10) {
+    match random.below(11) {
         0..=2 => lesson_lines::lessons(random, number),
         3 => lend_lines::lines(random, number),
         4 => help_lines::lines(random, number),
         5 => totals_lines::lines(random, number),
         6 => ties_lines::lines(random, number),
-        7 => each(random, number, sent_lines::line),
-        8 => each(random, number, received_lines::line),
+        7 => missing_lines::lines(random, number),
+        8 => each(random, number, sent_lines::line),
+        9 => each(random, number, received_lines::line),
         _ => each(random, number, view_lines::line),
     }
 }

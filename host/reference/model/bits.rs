@@ -1,5 +1,7 @@
 //! Lists of bits. A bit is one byte, 0 or 1; all sums are modulo 2.
 
+use crate::model::missing::turned_over;
+
 /// The indices at which a one stands.
 pub fn ones_at(bits: &[u8]) -> Vec<usize> {
     (0..bits.len()).filter(|&k| bits[k] == 1).collect()
@@ -10,6 +12,11 @@ pub fn ones(bits: &[u8]) -> usize {
     ones_at(bits).len()
 }
 
+/// The number of zeros; what is missing of received bits is neither.
+pub fn zeros(bits: &[u8]) -> usize {
+    bits.iter().filter(|&&bit| bit == 0).count()
+}
+
 /// Adds bits to the beginning of a list.
 pub fn add(list: &mut [u8], bits: &[u8]) {
     for k in 0..bits.len() {
@@ -17,9 +24,9 @@ pub fn add(list: &mut [u8], bits: &[u8]) {
     }
 }
 
-/// The list with every bit turned over.
+/// The list with every bit turned over; what is missing of received bits stays so.
 pub fn inverted(bits: &[u8]) -> Vec<u8> {
-    bits.iter().map(|bit| 1 - bit).collect()
+    bits.iter().map(|&bit| turned_over(bit)).collect()
 }
 
 /// The bits u(0)..u(n-1) of a number, with u(k) at bit k.
@@ -39,6 +46,12 @@ mod tests {
     }
 
     #[test]
+    fn what_is_missing_is_neither_one_nor_zero() {
+        let received = [2, 0, 1, 2, 0, 0];
+        assert_eq!((ones(&received), zeros(&received)), (1, 3));
+    }
+
+    #[test]
     fn a_sum_of_lists() {
         let mut list = vec![0, 1, 0, 1, 1];
         add(&mut list, &[0, 0, 1, 1]);
@@ -48,6 +61,7 @@ mod tests {
     #[test]
     fn every_bit_is_turned_over() {
         assert_eq!(inverted(&[0, 1, 1]), [1, 0, 0]);
+        assert_eq!(inverted(&[2, 0, 2]), [2, 1, 2]);
     }
 
     #[test]

@@ -4,7 +4,7 @@ use crate::model::burst::{from_four_bursts, on_four_bursts};
 use crate::model::coding;
 use crate::model::polynomial::{from_powers, multiply, Polynomial};
 use crate::model::receiving;
-use crate::model::refusal::{check, check_identity, Refusal};
+use crate::model::refusal::{check_identity, check_received, check_sent, Refusal};
 
 /// A good block: the count of disagreements and the information bits d.
 pub type Received = Result<(usize, Vec<u8>), Refusal>;
@@ -122,9 +122,8 @@ impl Channel {
         2 * self.pairs
     }
 
-    /// Refusals in the order 1, 2, 3.
-    fn check(&self, identity: u64, bits: &[u8], right_lengths: bool) -> Result<(), Refusal> {
-        check(bits, right_lengths)?;
+    /// Refusal 3 where the channel has an identity.
+    fn check_identity(&self, identity: u64) -> Result<(), Refusal> {
         if self.has_identity {
             check_identity(identity)?;
         }
@@ -136,9 +135,11 @@ impl Channel {
         (self.encoder)(self, identity, d)
     }
 
-    /// The bits that are sent for the information bits d, written to so many lent bytes.
+    /// The bits that are sent for the information bits d, written to so many lent bytes; refusals
+    /// in the order 1, 2, 3.
     pub fn encode(&self, identity: u64, d: &[u8], lent: usize) -> Result<Vec<u8>, Refusal> {
-        self.check(identity, d, d.len() == self.reads && lent == self.writes)?;
+        check_sent(d, d.len() == self.reads && lent == self.writes)?;
+        self.check_identity(identity)?;
         let c = self.coded(identity, d);
         Ok(match self.flags {
             Some(flags) => on_four_bursts(&c, &flags),
@@ -146,10 +147,11 @@ impl Channel {
         })
     }
 
-    /// The block that is received, written to so many lent bytes; the flags of four bursts must be
-    /// bits, but are not used.
+    /// The block that is received, written to so many lent bytes; refusals in the order 1, 2, 3, 8.
+    /// The flags of four bursts must be bits or missing, but are not used.
     pub fn decode(&self, identity: u64, e: &[u8], lent: usize) -> Received {
-        self.check(identity, e, e.len() == self.writes && lent == self.reads)?;
+        check_received(e, e.len() == self.writes && lent == self.reads)?;
+        self.check_identity(identity)?;
         match self.flags {
             Some(_) => (self.decoder)(self, identity, &from_four_bursts(e)),
             None => (self.decoder)(self, identity, e),
@@ -160,7 +162,7 @@ impl Channel {
 #[cfg(test)]
 mod tests {
     use super::*;
-    use crate::chance::lists::{alter, random_bits};
+    use crate::chance::lists::{alter, alter_and_lose, lose, random_bits};
     use crate::chance::random::Random;
     use crate::model::bits::{add, inverted, ones, ones_at};
     use crate::model::burst::BURST;
@@ -249,15 +251,15 @@ mod tests {
         for channel in CHANNELS {
             let (reads, writes) = (channel.reads, channel.writes);
             for length in [0, 1, reads - 1, reads + 1, writes, 2 * reads] {
-                let refused = channel.encode(64, &vec![2; length], channel.writes);
+                let refused = channel.encode(64, &vec![3; length], channel.writes);
                 assert_eq!(refused, Err(WrongLength), "{}", channel.name);
             }
             for length in [0, 1, reads, writes - 1, writes + 1, 2 * writes] {
-                let refused = channel.decode(64, &vec![2; length], channel.reads);
+                let refused = channel.decode(64, &vec![3; length], channel.reads);
                 assert_eq!(refused, Err(WrongLength), "{}", channel.name);
             }
         }
-        assert_eq!(SACCH.decode(0, &[2; 456], 184), Err(WrongLength));
+        assert_eq!(SACCH.decode(0, &[3; 456], 184), Err(WrongLength));
     }
 
     #[test]
@@ -265,13 +267,13 @@ mod tests {
         for channel in CHANNELS {
             let (reads, writes) = (channel.reads, channel.writes);
             for length in (0..=600).filter(|&length| length != writes) {
-                for bit in [0, 2] {
+                for bit in [0, 3] {
                     let refused = channel.encode(64, &vec![bit; reads], length);
                     assert_eq!(refused, Err(WrongLength), "{}", channel.name);
                 }
             }
             for length in (0..=600).filter(|&length| length != reads) {
-                for bit in [0, 2] {
+                for bit in [0, 3] {
                     let refused = channel.decode(64, &vec![bit; writes], length);
                     assert_eq!(refused, Err(WrongLength), "{}", channel.name);
                 }
@@ -279,33 +281,43 @@ mod tests {
         }
     }
 
+    /// Lists of so many bytes of which one alone or all are this one; the last bit of speech is
+    /// unprotected.
+    fn with_byte(byte: u8, length: usize) -> [Vec<u8>; 3] {
+        let first = [&[byte][..], &vec![0; length - 1]].concat();
+        let last = first.iter().rev().copied().collect();
+        [first, last, vec![byte; length]]
+    }
+
     #[test]
-    fn bytes_over_1_are_refused_next() {
+    fn bytes_over_1_are_refused_next_where_they_are_sent() {
         for channel in CHANNELS {
             for byte in [2, 3, 9, 255] {
-                // The last bit of speech is unprotected.
-                let mut d = vec![0; channel.reads];
-                d[channel.reads - 1] = byte;
-                assert_eq!(
-                    channel.encode(64, &d, channel.writes),
-                    Err(NotABit),
-                    "{}",
-                    channel.name
-                );
-                let mut received = vec![0; channel.writes];
-                received[channel.writes - 1] = byte;
-                let refused = channel.decode(64, &received, channel.reads);
-                assert_eq!(refused, Err(NotABit), "{}", channel.name);
+                for d in with_byte(byte, channel.reads) {
+                    let refused = channel.encode(64, &d, channel.writes);
+                    assert_eq!(refused, Err(NotABit), "{}", channel.name);
+                }
             }
-            let all_wrong = (vec![2; channel.reads], vec![2; channel.writes]);
-            assert_eq!(
-                channel.encode(64, &all_wrong.0, channel.writes),
-                Err(NotABit)
-            );
-            assert_eq!(
-                channel.decode(64, &all_wrong.1, channel.reads),
-                Err(NotABit)
-            );
+        }
+    }
+
+    #[test]
+    fn bytes_over_2_are_refused_next_where_they_are_received() {
+        for channel in CHANNELS {
+            for byte in [3, 4, 9, 255] {
+                for e in with_byte(byte, channel.writes) {
+                    let refused = channel.decode(64, &e, channel.reads);
+                    assert_eq!(refused, Err(NotABit), "{}", channel.name);
+                }
+            }
+            for e in with_byte(2, channel.writes) {
+                let answer = channel.decode(64, &e, channel.reads);
+                let expected = match channel.has_identity {
+                    true => Err(WrongIdentity),
+                    false => bad_parity(0),
+                };
+                assert_eq!(answer, expected, "{}", channel.name);
+            }
         }
     }
 
@@ -348,6 +360,19 @@ mod tests {
         }
         assert_eq!(ACCESS.decode(63, &[0; 36], 8), Ok((0, vec![0; 8])));
         assert_eq!(ACCESS.encode(63, &[0; 8], 36), Ok(vec![0; 36]));
+    }
+
+    #[test]
+    fn what_is_all_missing_is_received_as_zeros_are() {
+        for channel in CHANNELS {
+            for identity in 0..64 {
+                let missing = channel.decode(identity, &vec![2; channel.writes], channel.reads);
+                let zeros = channel.decode(identity, &vec![0; channel.writes], channel.reads);
+                assert_eq!(missing, zeros, "{}", channel.name);
+            }
+        }
+        assert_eq!(ACCESS.decode(63, &[2; 36], 8), Ok((0, vec![0; 8])));
+        assert_eq!(ACCESS.decode(62, &[2; 36], 8), bad_parity(0));
     }
 
     #[test]
@@ -401,6 +426,36 @@ mod tests {
     }
 
     #[test]
+    fn altered_bits_weigh_twice_as_much_as_missing_ones_and_six_are_borne() {
+        let mut random = Random::new(200);
+        for channel in CHANNELS {
+            for altered in 0..=3 {
+                for missing in 0..=6 - 2 * altered {
+                    for identity in 0..16 {
+                        let d = random_bits(&mut random, channel.reads);
+                        let mut c = channel.coded(identity, &d);
+                        let protected = &mut c[..channel.protected()];
+                        alter_and_lose(&mut random, protected, altered, missing);
+                        let e = received(&mut random, &channel, c);
+                        let answer = channel.decode(identity, &e, channel.reads);
+                        assert_eq!(answer, Ok((altered, d)), "{}", channel.name);
+                    }
+                }
+            }
+        }
+    }
+
+    #[test]
+    fn seven_missing_bits_are_beyond_it() {
+        // All seven ones of u(0) = 1 with zeros behind it; the tie takes the zeros.
+        let mut e = convolve(&[&[1][..], &[0; 17]].concat());
+        for k in ones_at(&e) {
+            e[k] = 2;
+        }
+        assert_eq!(ACCESS.decode(63, &e, 8), Ok((0, vec![0; 8])));
+    }
+
+    #[test]
     fn blocks_come_back_as_they_were_sent() {
         let mut random = Random::new(40);
         for channel in CHANNELS {
@@ -422,6 +477,22 @@ mod tests {
         let turned = [&c[..378], &inverted(&c[378..])].concat();
         let expected = [&d[..182], &inverted(&d[182..])].concat();
         assert_eq!(SPEECH.decode(NO_IDENTITY, &turned, 260), Ok((0, expected)));
+    }
+
+    #[test]
+    fn missing_bits_of_class_2_are_given_as_0() {
+        let mut random = Random::new(201);
+        let c = SPEECH.coded(NO_IDENTITY, &[1; 260]);
+        for missing in [1, 2, 30, 78] {
+            let mut e = c.clone();
+            lose(&mut random, &mut e[378..], missing);
+            let (count, d) = SPEECH.decode(NO_IDENTITY, &e, 260).unwrap();
+            assert_eq!((count, &d[..182]), (0, &[1; 182][..]));
+            for k in 182..260 {
+                assert_eq!(d[k], u8::from(e[196 + k] == 1), "d({})", k);
+            }
+            assert_eq!(ones(&d), 260 - missing);
+        }
     }
 
     #[test]
@@ -462,12 +533,16 @@ mod tests {
     }
 
     #[test]
-    fn flags_must_be_bits() {
+    fn flags_must_be_bits_or_missing() {
+        let mut missing = SACCH.encode(NO_IDENTITY, &[0; 184], 464).unwrap();
         for k in [57, 58, 173, 174, 289, 290, 405, 406] {
             let mut e = SACCH.encode(NO_IDENTITY, &[0; 184], 464).unwrap();
-            e[k] = 2;
+            e[k] = 3;
             let refused = SACCH.decode(NO_IDENTITY, &e, 184);
             assert_eq!(refused, Err(NotABit), "e({})", k % 116);
+            missing[k] = 2;
+            let received = SACCH.decode(NO_IDENTITY, &missing, 184);
+            assert_eq!(received, Ok((0, vec![0; 184])), "e({})", k % 116);
         }
     }
 }

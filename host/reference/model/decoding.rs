@@ -1,5 +1,6 @@
 //! The nearest candidate. Candidates are all u of n bits whose last four are 0; the nearest is
-//! the one whose pairs disagree with the received bits in the fewest places.
+//! the one whose pairs disagree with the received bits in the fewest places. Nothing disagrees in a
+//! place that is missing.
 
 use crate::model::bits::bits_of;
 use crate::model::exhaustive::Pairs;
@@ -48,6 +49,7 @@ fn nearest_survivor(received: &[u8]) -> Survivor {
 mod tests {
     use super::*;
     use crate::chance::lists;
+    use crate::chance::losses;
     use crate::chance::random::Random;
     use crate::model::bits::inverted;
     use crate::model::coding::convolve;
@@ -134,6 +136,63 @@ mod tests {
     }
 
     #[test]
+    fn both_methods_agree_where_bits_are_missing() {
+        let mut random = Random::new(220);
+        for n in 4..=18 {
+            for _ in 0..30 {
+                for mut received in [
+                    lists::random_bits(&mut random, 2 * n),
+                    midway(&mut random, n),
+                    convolve(&candidate(&mut random, n)),
+                ] {
+                    losses::lose_some(&mut random, &mut received);
+                    both_agree(&received);
+                    both_agree(&inverted(&received));
+                }
+            }
+        }
+    }
+
+    /// The nearest of all candidates by the words of the paper alone: each present place is looked
+    /// at, and of equals the one is taken that comes first, compared from the last bit back.
+    fn nearest_in_words(received: &[u8]) -> Survivor {
+        let n = received.len() / 2;
+        let present: Vec<usize> = (0..2 * n).filter(|&k| received[k] < 2).collect();
+        let candidates = (0..1 << (n - 4)).map(|number| {
+            let u = bits_of(number, n);
+            let c = convolve(&u);
+            let count = present.iter().filter(|&&k| c[k] != received[k]).count();
+            Survivor { count, u }
+        });
+        let order = |one: &Survivor| {
+            let backwards: Vec<u8> = one.u.iter().rev().copied().collect();
+            (one.count, backwards)
+        };
+        candidates.min_by_key(order).unwrap()
+    }
+
+    #[test]
+    fn the_nearest_is_that_of_the_words() {
+        let mut random = Random::new(221);
+        for n in 4..=11 {
+            for _ in 0..40 {
+                let mut received = midway(&mut random, n);
+                assert_eq!(nearest(&received), nearest_in_words(&received));
+                losses::lose_some(&mut random, &mut received);
+                assert_eq!(nearest(&received), nearest_in_words(&received));
+            }
+        }
+    }
+
+    #[test]
+    fn what_is_all_missing_is_nearest_to_zeros() {
+        for n in [4, 18, 19, 39, 189, 228] {
+            let answer = nearest(&vec![2; 2 * n]);
+            assert_eq!((answer.count, answer.u), (0, vec![0; n]));
+        }
+    }
+
+    #[test]
     fn lists_midway_tie_mostly() {
         let mut random = Random::new(25);
         let ties = (0..200)
@@ -180,6 +239,38 @@ mod tests {
             let u = candidate(&mut random, n);
             let answer = nearest(&convolve(&u));
             assert_eq!((answer.count, answer.u), (0, u));
+        }
+    }
+
+    #[test]
+    fn a_candidate_of_which_one_of_each_pair_is_left_is_its_own_nearest() {
+        let mut random = Random::new(222);
+        for n in [4, 18, 39, 189, 228] {
+            let u = candidate(&mut random, n);
+            for first in [0, 1] {
+                let mut received = convolve(&u);
+                for bit in received.iter_mut().skip(first).step_by(2) {
+                    *bit = 2;
+                }
+                let answer = nearest(&received);
+                assert_eq!((answer.count, &answer.u), (0, &u));
+            }
+        }
+    }
+
+    #[test]
+    fn altered_bits_weigh_twice_as_much_as_missing_ones_and_six_are_borne_in_every_length() {
+        let mut random = Random::new(223);
+        for n in [4, 18, 19, 39, 189, 228] {
+            for altered in 0..=3 {
+                for missing in 0..=6 - 2 * altered {
+                    let u = candidate(&mut random, n);
+                    let mut received = convolve(&u);
+                    lists::alter_and_lose(&mut random, &mut received, altered, missing);
+                    let answer = nearest(&received);
+                    assert_eq!((answer.count, answer.u), (altered, u));
+                }
+            }
         }
     }
 

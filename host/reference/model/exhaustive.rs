@@ -1,28 +1,48 @@
 //! Going through all bits u of a small length, each u as a number with u(k) at bit k.
 
-/// The received pairs as two numbers: bit k is the received c(2k) in one, c(2k+1) in the other.
-pub struct Pairs {
-    number: usize,
-    even: u64,
-    odd: u64,
+use crate::model::missing::disagrees;
+
+/// One received byte of each pair: bit k of one number is 1 where a coded 0 disagrees with that of
+/// pair k, bit k of the other where a coded 1 does.
+struct Column {
+    against_0: u64,
+    against_1: u64,
 }
 
-/// Every second bit from the first one on, as a number.
-fn every_second(bits: &[u8], first: usize) -> u64 {
-    let mut number = 0;
-    for k in 0..bits.len() / 2 {
-        number |= u64::from(bits[2 * k + first]) << k;
+impl Column {
+    /// Every second byte from the first one on.
+    fn of(received: &[u8], first: usize) -> Column {
+        let against = |coded: u8| {
+            let mut number = 0;
+            for k in 0..received.len() / 2 {
+                number |= u64::from(disagrees(coded, received[2 * k + first])) << k;
+            }
+            number
+        };
+        Column {
+            against_0: against(0),
+            against_1: against(1),
+        }
     }
-    number
+
+    /// In how many places the coded bits disagree, bit k being that of pair k.
+    fn disagreements(&self, coded: u64) -> u32 {
+        ((coded & self.against_1) | (!coded & self.against_0)).count_ones()
+    }
+}
+
+/// The received pairs: c(2k) of each in one column, c(2k+1) in the other.
+pub struct Pairs {
+    even: Column,
+    odd: Column,
 }
 
 impl Pairs {
-    /// The received bits, fewer than 64 pairs.
-    pub fn of(bits: &[u8]) -> Pairs {
+    /// What is received, fewer than 64 pairs.
+    pub fn of(received: &[u8]) -> Pairs {
         Pairs {
-            number: bits.len() / 2,
-            even: every_second(bits, 0),
-            odd: every_second(bits, 1),
+            even: Column::of(received, 0),
+            odd: Column::of(received, 1),
         }
     }
 
@@ -31,10 +51,7 @@ impl Pairs {
         // Bit k of u << 3 is u(k-3), so each line is the formula for all k at once.
         let even = u ^ (u << 3) ^ (u << 4);
         let odd = u ^ (u << 1) ^ (u << 3) ^ (u << 4);
-        let all_pairs = (1 << self.number) - 1;
-        let even_ones = ((even ^ self.even) & all_pairs).count_ones();
-        let odd_ones = ((odd ^ self.odd) & all_pairs).count_ones();
-        (even_ones + odd_ones) as usize
+        (self.even.disagreements(even) + self.odd.disagreements(odd)) as usize
     }
 }
 
@@ -42,21 +59,37 @@ impl Pairs {
 mod tests {
     use super::*;
     use crate::chance::lists::random_bits;
+    use crate::chance::losses::lose_some;
     use crate::chance::random::Random;
     use crate::model::bits::bits_of;
     use crate::model::coding::convolve;
+    use crate::model::missing::MISSING;
+
+    /// In how many of the places that are not missing the coded bits are others than the received.
+    fn present_and_other(c: &[u8], received: &[u8]) -> usize {
+        let present = (0..c.len()).filter(|&k| received[k] != MISSING);
+        present.filter(|&k| c[k] != received[k]).count()
+    }
 
     #[test]
-    fn disagreements_are_those_of_the_convolution() {
+    fn disagreements_are_those_of_the_convolution_where_nothing_is_missing() {
         let mut random = Random::new(21);
         for t in 0..=18 {
-            for _ in 0..50 {
+            for times in 0..50 {
                 let u = random.below(1 << t) as u64;
-                let received = random_bits(&mut random, 2 * t);
-                let c = convolve(&bits_of(u, t));
-                let count = (0..2 * t).filter(|&k| c[k] != received[k]).count();
+                let mut received = random_bits(&mut random, 2 * t);
+                if times % 2 == 1 {
+                    lose_some(&mut random, &mut received);
+                }
+                let count = present_and_other(&convolve(&bits_of(u, t)), &received);
                 assert_eq!(Pairs::of(&received).disagreements(u), count);
             }
         }
+    }
+
+    #[test]
+    fn nothing_disagrees_where_all_is_missing() {
+        let pairs = Pairs::of(&[MISSING; 36]);
+        assert!((0..1 << 18).all(|u| pairs.disagreements(u) == 0));
     }
 }

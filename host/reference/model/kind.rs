@@ -2,8 +2,9 @@
 
 #[cfg(test)]
 use crate::chance::{lists::random_bits, random::Random};
-use crate::model::bits::ones;
+use crate::model::bits::{ones, zeros};
 use crate::model::channel::{Channel, CONTROL, SPEECH};
+use std::cmp::Ordering;
 
 /// The kind of a block.
 #[derive(Clone, Copy, Debug, PartialEq)]
@@ -45,12 +46,13 @@ impl Kind {
             .find(|kind| kind.channel().reads == length)
     }
 
-    /// 0 to 3 ones mean speech, 5 to 8 FACCH; 4 tell no kind.
+    /// More zeros than ones mean speech, more ones FACCH, and equal numbers tell no kind; a missing
+    /// flag has no vote. 02, M-102
     pub fn of_flags(flags: &[u8]) -> Option<Kind> {
-        match ones(flags) {
-            0..=3 => Some(Kind::Speech),
-            4 => None,
-            _ => Some(Kind::Facch),
+        match ones(flags).cmp(&zeros(flags)) {
+            Ordering::Less => Some(Kind::Speech),
+            Ordering::Equal => None,
+            Ordering::Greater => Some(Kind::Facch),
         }
     }
 }
@@ -72,7 +74,7 @@ pub fn blocks(seed: u64, kinds: &str) -> Vec<Vec<u8>> {
 #[cfg(test)]
 mod tests {
     use super::*;
-    use crate::model::bits::bits_of;
+    use crate::model::bits::{bits_of, inverted};
 
     #[test]
     fn the_length_names_the_kind() {
@@ -95,6 +97,52 @@ mod tests {
                 _ => Some(Kind::Facch),
             };
             assert_eq!(Kind::of_flags(&bits_of(pattern, 8)), expected);
+        }
+    }
+
+    /// Eight flags, each of them 0, 1 or missing: the digits of a number below 6,561 to base 3.
+    fn flags_of(number: usize) -> Vec<u8> {
+        let powers = std::iter::successors(Some(1), |power| Some(3 * power));
+        let digits = powers.map(|power| (number / power % 3) as u8);
+        digits.take(8).collect()
+    }
+
+    #[test]
+    fn missing_flags_have_no_vote() {
+        for number in 0..6561 {
+            let flags = flags_of(number);
+            let vote = |flag: &u8| match flag {
+                0 => -1,
+                1 => 1,
+                _ => 0,
+            };
+            let expected = match flags.iter().map(vote).sum::<i32>() {
+                0 => None,
+                sum if sum < 0 => Some(Kind::Speech),
+                _ => Some(Kind::Facch),
+            };
+            assert_eq!(Kind::of_flags(&flags), expected, "{:?}", flags);
+        }
+        assert_eq!(flags_of(6560), [2; 8]);
+    }
+
+    /// The flags of a kind: the first ones altered, the next ones missing.
+    fn damaged(kind: Kind, altered: usize, missing: usize) -> Vec<u8> {
+        let flags = kind.flags();
+        let (first, others) = flags.split_at(altered);
+        [&inverted(first), &vec![2; missing], &others[missing..]].concat()
+    }
+
+    #[test]
+    fn altered_flags_weigh_twice_as_much_as_missing_ones_and_seven_are_borne() {
+        for kind in [Kind::Speech, Kind::Facch] {
+            for altered in 0..=4 {
+                for missing in 0..=8 - 2 * altered {
+                    let flags = damaged(kind, altered, missing);
+                    let expected = (2 * altered + missing <= 7).then_some(kind);
+                    assert_eq!(Kind::of_flags(&flags), expected, "{:?}", flags);
+                }
+            }
         }
     }
 

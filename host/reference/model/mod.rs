@@ -8,6 +8,7 @@ pub mod coding;
 pub mod decoding;
 pub mod exhaustive;
 pub mod kind;
+pub mod missing;
 pub mod polynomial;
 pub mod receiving;
 pub mod receiving_stream;

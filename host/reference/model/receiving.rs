@@ -4,6 +4,7 @@
 use crate::model::channel::{Channel, Received};
 use crate::model::coding::add_identity;
 use crate::model::decoding::nearest;
+use crate::model::missing::given_as;
 use crate::model::polynomial::leaves_all_ones;
 use crate::model::refusal::Refusal;
 use crate::model::survivors::Survivor;
@@ -23,7 +24,7 @@ fn verdict(channel: &Channel, identity: u64, found: Survivor, d: Vec<u8>) -> Rec
 }
 
 /// d(2k) = u(k) and d(2k+1) = u(184-k) for k = 0..90
-/// d(182+k) = c(378+k) for k = 0..77, as received
+/// d(182+k) = c(378+k) for k = 0..77, as received; 0 where it is missing
 pub fn speech_bits(u: &[u8], c: &[u8]) -> Vec<u8> {
     let mut d = vec![0; 260];
     for k in 0..=90 {
@@ -31,7 +32,7 @@ pub fn speech_bits(u: &[u8], c: &[u8]) -> Vec<u8> {
         d[2 * k + 1] = u[184 - k];
     }
     for k in 0..=77 {
-        d[182 + k] = c[378 + k];
+        d[182 + k] = given_as(c[378 + k]);
     }
     d
 }
@@ -68,5 +69,6 @@ mod tests {
         // Class 1 comes from u alone, class 2 from c alone.
         let class_1 = [&d[..182], &[0; 78]].concat();
         assert_eq!(speech_bits(&u, &[0; 456]), class_1);
+        assert_eq!(speech_bits(&u, &[2; 456]), class_1);
     }
 }

@@ -4,7 +4,7 @@
 use crate::model::burst::{Interleaving, BURST};
 use crate::model::channel::NO_IDENTITY;
 use crate::model::kind::Kind;
-use crate::model::refusal::{check, Refusal};
+use crate::model::refusal::{check_received, Refusal};
 
 /// Burst 65,535 is the last that can be taken.
 const MOST_BURSTS: usize = 65_536;
@@ -85,7 +85,7 @@ fn decoded(kind: Kind, c: &[u8]) -> Block {
 fn of_either_kind(c: &[u8]) -> Block {
     decoded(Kind::Facch, c)
         .or_else(|_| decoded(Kind::Speech, c))
-        .map_err(|_| Refusal::FourFlags)
+        .map_err(|_| Refusal::EqualFlags)
 }
 
 /// Burst 4n+7 brings the answer for block n, every other burst none.
@@ -136,7 +136,7 @@ impl Receiver {
 
     /// The answer to a take, which is not yet among those given.
     fn taken(&mut self, number: u16, e: &[u8], lent: usize) -> Result<Taken, Refusal> {
-        check(e, e.len() == BURST && lent == LENT_TO_TAKE)?;
+        check_received(e, e.len() == BURST && lent == LENT_TO_TAKE)?;
         if self.bursts.len() == MOST_BURSTS {
             return Err(Refusal::StreamFull);
         }
@@ -172,7 +172,8 @@ mod tests {
     use super::*;
     use crate::chance::both_kinds::block_of_both_kinds;
     use crate::chance::cable::{self, change_block};
-    use crate::chance::lists::{alter, random_bits};
+    use crate::chance::lists::{alter, alter_and_lose, lose, random_bits};
+    use crate::chance::losses::flags_of;
     use crate::chance::random::Random;
     use crate::model::bits::{bits_of, inverted, ones};
     use crate::model::burst::cut;
@@ -207,10 +208,10 @@ mod tests {
     }
 
     /// Refusal 9 for block n.
-    fn four_flags(n: usize) -> Taken {
+    fn equal_flags(n: usize) -> Taken {
         Taken::Bad {
             n,
-            refusal: FourFlags,
+            refusal: EqualFlags,
         }
     }
 
@@ -243,9 +244,17 @@ mod tests {
         after_each
     }
 
-    /// Alters so many of the flags of block n.
-    fn alter_flags(random: &mut Random, bursts: &mut [Vec<u8>], n: usize, number: usize) {
-        change_block(bursts, n, |_, flags| alter(random, flags, number));
+    /// Alters so many of the flags of block n, and loses so many others.
+    fn damage_flags(
+        random: &mut Random,
+        bursts: &mut [Vec<u8>],
+        n: usize,
+        altered: usize,
+        missing: usize,
+    ) {
+        change_block(bursts, n, |_, flags| {
+            alter_and_lose(random, flags, altered, missing)
+        });
     }
 
     #[test]
@@ -305,9 +314,14 @@ mod tests {
         flags
     }
 
-    /// The bursts of six blocks, of random bits; the flags are random too, or four of each block's.
+    /// The bursts of six blocks, of random bits, of which some may be missing; the flags are random
+    /// too, or four of each block's.
     fn any_bursts(random: &mut Random) -> Vec<Vec<u8>> {
-        let mut bursts = cut(&random_bits(random, 28 * BURST));
+        let mut bits = random_bits(random, 28 * BURST);
+        if random.one_in(2) {
+            lose(random, &mut bits, 14 * BURST);
+        }
+        let mut bursts = cut(&bits);
         if random.one_in(2) {
             for n in 0..6 {
                 Diagonal(n).put_flags(&mut bursts, &flags_with(random, 4));
@@ -327,28 +341,31 @@ mod tests {
     }
 
     #[test]
-    fn up_to_four_altered_flags_are_repaired() {
+    fn flags_are_repaired_up_to_equal_votes() {
         let mut random = Random::new(66);
         let blocks = blocks(66, "sfssff");
         let sent = sent_and_ended(&blocks);
         for n in 0..6 {
-            for number in 0..=4 {
-                let mut bursts = sent.clone();
-                alter_flags(&mut random, &mut bursts, n, number);
-                assert_eq!(answers(&bursts), answers(&sent));
+            for altered in 0..=4 {
+                for missing in 0..=8 - 2 * altered {
+                    let mut bursts = sent.clone();
+                    damage_flags(&mut random, &mut bursts, n, altered, missing);
+                    assert_eq!(answers(&bursts), answers(&sent));
+                }
             }
         }
     }
 
     #[test]
-    fn five_or_more_altered_flags_make_the_other_kind() {
+    fn more_votes_for_the_other_kind_make_that() {
         let mut random = Random::new(182);
         let blocks = blocks(182, "sfssff");
         let sent = sent_and_ended(&blocks);
         for n in 0..6 {
-            for number in 5..=8 {
+            let without_missing = (5..=8).map(|altered| (altered, 0));
+            for (altered, missing) in without_missing.chain([(4, 1), (3, 4), (2, 5), (1, 7)]) {
                 let mut bursts = sent.clone();
-                alter_flags(&mut random, &mut bursts, n, number);
+                damage_flags(&mut random, &mut bursts, n, altered, missing);
                 let mut expected = answers(&sent);
                 expected[n] = as_kind(n, other_kind(&blocks[n]), &Diagonal(n).bits(&sent));
                 assert_eq!(answers(&bursts), expected);
@@ -363,11 +380,112 @@ mod tests {
             let mut bursts = vec![vec![0; BURST]; 8];
             Diagonal(0).put_flags(&mut bursts, &flags);
             let expected = match ones(&flags) {
-                4 => four_flags(0),
+                4 => equal_flags(0),
                 _ => bad_parity(0, 0),
             };
             assert_eq!(answers(&bursts), [expected], "{:?}", flags);
         }
+    }
+
+    #[test]
+    fn zeros_with_equal_votes_are_refused_with_9_and_with_others_with_8() {
+        let mut random = Random::new(202);
+        for ones in 0..=8 {
+            for zeros in 0..=8 - ones {
+                let flags = flags_of(&mut random, ones, zeros);
+                let mut bursts = vec![vec![0; BURST]; 8];
+                Diagonal(0).put_flags(&mut bursts, &flags);
+                let expected = match ones == zeros {
+                    true => equal_flags(0),
+                    false => bad_parity(0, 0),
+                };
+                assert_eq!(answers(&bursts), [expected], "{:?}", flags);
+            }
+        }
+    }
+
+    #[test]
+    fn a_block_that_is_all_missing_is_refused_with_9() {
+        let mut bursts = sent_and_ended(&blocks(203, "sfs"));
+        change_block(&mut bursts, 1, |c, flags| {
+            c.fill(2);
+            flags.fill(2);
+        });
+        let answers = answers(&bursts);
+        assert_eq!(answers[1], equal_flags(1));
+        assert!([0, 2]
+            .iter()
+            .all(|&n| matches!(answers[n], Taken::Good { .. })));
+        // With any vote it is refused with 8, and no bit is counted.
+        for flag in [0, 1] {
+            change_block(&mut bursts, 1, |_, flags| flags[5] = flag);
+            assert_eq!(given(&bursts)[11], bad_parity(1, 0));
+        }
+    }
+
+    #[test]
+    fn altered_bits_weigh_twice_as_much_as_missing_ones_and_six_are_borne() {
+        let mut random = Random::new(206);
+        let blocks = blocks(206, "sfsfsf");
+        let sent = sent_and_ended(&blocks);
+        for n in 0..6 {
+            let kind = Kind::of_length(blocks[n].len()).unwrap();
+            let protected = kind.channel().protected();
+            for altered in 0..=3 {
+                for missing in 0..=6 - 2 * altered {
+                    let mut c = Diagonal(n).bits(&sent);
+                    alter_and_lose(&mut random, &mut c[..protected], altered, missing);
+                    let mut flags = kind.flags();
+                    alter_and_lose(&mut random, &mut flags, altered, 7 - 2 * altered);
+                    // Whatever the neighbours are, and whatever is missing of them.
+                    let mut bursts = any_bursts(&mut random);
+                    put_block(&mut bursts, n, &c, &flags);
+                    assert_eq!(answers(&bursts)[n], as_sent(n, &blocks[n], altered));
+                }
+            }
+        }
+    }
+
+    /// The block as it is given with one of its eight bursts missing: of speech, the unprotected
+    /// bits that were in it are 0.
+    fn without_burst(d: &[u8], burst: usize) -> Vec<u8> {
+        // d(k) is c(k+196), and that is in burst (k+196) mod 8.
+        let is_lost = |k: usize| d.len() == 260 && k >= 182 && (k + 196) % 8 == burst;
+        (0..d.len())
+            .map(|k| if is_lost(k) { 0 } else { d[k] })
+            .collect()
+    }
+
+    #[test]
+    fn a_burst_that_never_came_costs_no_protected_bit() {
+        let blocks = blocks(207, "sfssffs");
+        let sent = sent_and_ended(&blocks);
+        for burst in 0..32 {
+            let mut bursts = sent.clone();
+            bursts[burst].fill(2);
+            let expected = |n: usize| match burst.checked_sub(4 * n) {
+                Some(own @ 0..=7) => as_sent(n, &without_burst(&blocks[n], own), 0),
+                _ => as_sent(n, &blocks[n], 0),
+            };
+            let expected: Vec<Taken> = (0..7).map(expected).collect();
+            assert_eq!(answers(&bursts), expected, "burst {}", burst);
+        }
+    }
+
+    #[test]
+    fn missing_bursts_are_waited_for_like_any_other() {
+        let mut bursts = sent_and_ended(&blocks(208, "sffs"));
+        for e in &mut bursts[4..12] {
+            e.fill(2);
+        }
+        let taken = given(&bursts);
+        for burst in 0..20 {
+            let brings = [7, 11, 15, 19].contains(&burst);
+            assert_eq!(taken[burst] != Taken::Waiting, brings, "burst {}", burst);
+        }
+        // All of block 1 was in them.
+        assert_eq!(taken[11], equal_flags(1));
+        assert!(matches!(taken[19], Taken::Good { n: 3, .. }));
     }
 
     #[test]
@@ -382,7 +500,7 @@ mod tests {
                 let mut expected = answers(&sent);
                 expected[1] = match ones {
                     0..=3 => as_kind(1, Kind::Speech, &c),
-                    4 => four_flags(1),
+                    4 => equal_flags(1),
                     _ => as_kind(1, Kind::Facch, &c),
                 };
                 assert_eq!(answers(&bursts), expected, "{} ones", ones);
@@ -482,14 +600,15 @@ mod tests {
     #[test]
     fn refusals_come_in_the_order_1_2_5_4() {
         let mut receiver = Receiver::fresh();
-        assert_eq!(receiver.take(1, &[2; 115], 260), Err(WrongLength));
+        assert_eq!(receiver.take(1, &[3; 115], 260), Err(WrongLength));
         assert_eq!(receiver.take(1, &[], 260), Err(WrongLength));
         assert_eq!(receiver.take(0, &[0; 117], 260), Err(WrongLength));
         for lent in [0, 116, 184, 259, 261, 600] {
             assert_eq!(receiver.take(0, &[0; 116], lent), Err(WrongLength));
-            assert_eq!(receiver.take(1, &[2; 116], lent), Err(WrongLength));
+            assert_eq!(receiver.take(1, &[3; 116], lent), Err(WrongLength));
         }
-        assert_eq!(receiver.take(1, &[2; 116], 260), Err(NotABit));
+        assert_eq!(receiver.take(1, &[3; 116], 260), Err(NotABit));
+        assert_eq!(receiver.take(1, &[2; 116], 260), Err(OutOfTurn));
         assert_eq!(receiver.take(1, &[0; 116], 260), Err(OutOfTurn));
         assert_eq!(receiver.take(65_535, &[0; 116], 260), Err(OutOfTurn));
         assert_eq!(receiver.take(0, &[0; 116], 260), Ok(Taken::Waiting));
@@ -500,12 +619,14 @@ mod tests {
     }
 
     #[test]
-    fn every_byte_of_a_burst_must_be_a_bit() {
-        let mut receiver = Receiver::fresh();
+    fn every_byte_of_a_burst_must_be_a_bit_or_missing() {
         for k in 0..116 {
+            let mut receiver = Receiver::fresh();
             let mut e = vec![0; 116];
-            e[k] = 2;
+            e[k] = 3;
             assert_eq!(receiver.take(0, &e, 260), Err(NotABit), "e({})", k);
+            e[k] = 2;
+            assert_eq!(receiver.take(0, &e, 260), Ok(Taken::Waiting), "e({})", k);
         }
     }
 
@@ -541,8 +662,10 @@ mod tests {
         for number in [0, 65_535] {
             assert_eq!(receiver.take(number, &[0; 115], 260), Err(WrongLength));
             assert_eq!(receiver.take(number, &[0; 116], 259), Err(WrongLength));
-            assert_eq!(receiver.take(number, &[2; 116], 260), Err(NotABit));
-            assert_eq!(receiver.take(number, &[0; 116], 260), Err(StreamFull));
+            assert_eq!(receiver.take(number, &[3; 116], 260), Err(NotABit));
+            for bit in [0, 2] {
+                assert_eq!(receiver.take(number, &[bit; 116], 260), Err(StreamFull));
+            }
         }
         assert_eq!(receiver.totals(), totals(0, 0, 1, 0));
     }
@@ -586,7 +709,7 @@ mod tests {
         bursts[0][0] = 1;
         bursts[1][0] = 1;
         Diagonal(1).put_flags(&mut bursts, &[0, 0, 0, 0, 1, 1, 1, 1]);
-        assert_eq!(answers(&bursts), [bad_parity(0, 2), four_flags(1)]);
+        assert_eq!(answers(&bursts), [bad_parity(0, 2), equal_flags(1)]);
         let after_each = totals_after_each(&bursts);
         assert_eq!(after_each[7], totals(0, 0, 1, 0));
         assert_eq!(after_each[11], totals(0, 0, 2, 0));
@@ -630,7 +753,7 @@ mod tests {
     #[test]
     fn the_totals_are_what_the_answers_add_up_to() {
         let mut random = Random::new(102);
-        for cable in [cable::lesson, cable::ties] {
+        for cable in [cable::lesson, cable::ties, cable::missing] {
             let mut bursts = sent_and_ended(&blocks(102, &"ssf".repeat(30)));
             cable(&mut random, &mut bursts);
             let mut sum = totals(0, 0, 0, 0);

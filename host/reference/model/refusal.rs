@@ -1,11 +1,13 @@
 //! The numbers given for a no, and the checks that every entry begins with.
 
+use crate::model::missing::MISSING;
+
 /// Why a call is refused. Where several apply: 1, 2, 3, 7, 5, 4, 6, 9, 8.
 #[derive(Clone, Copy, Debug, PartialEq)]
 pub enum Refusal {
     /// A lent buffer has another length than the table says.
     WrongLength,
-    /// A byte that is read as a bit is over 1.
+    /// A byte that is read as a bit is over 1 where it is sent, or over 2 where it is received.
     NotABit,
     /// The identity is over 63.
     WrongIdentity,
@@ -19,8 +21,8 @@ pub enum Refusal {
     Ended,
     /// The parity is bad; the count is returned besides.
     BadParity { count: usize },
-    /// Four of the eight flags are 1, and the parity is bad as FACCH and as speech.
-    FourFlags,
+    /// As many of the eight flags are 1 as are 0, and the parity is bad as FACCH and as speech.
+    EqualFlags,
 }
 
 impl Refusal {
@@ -35,7 +37,7 @@ impl Refusal {
             Refusal::NothingSent => 6,
             Refusal::Ended => 7,
             Refusal::BadParity { .. } => 8,
-            Refusal::FourFlags => 9,
+            Refusal::EqualFlags => 9,
         }
     }
 
@@ -48,12 +50,23 @@ impl Refusal {
     }
 }
 
-/// Refusal 1 for a wrong length, of the bits or of what is lent, then refusal 2 for a byte over 1.
-pub fn check(bits: &[u8], right_lengths: bool) -> Result<(), Refusal> {
+/// The checks of what is sent: each of its bytes is a bit.
+pub fn check_sent(d: &[u8], right_lengths: bool) -> Result<(), Refusal> {
+    check(d, 1, right_lengths)
+}
+
+/// The checks of what is received: each of its bytes is a bit, or missing.
+pub fn check_received(e: &[u8], right_lengths: bool) -> Result<(), Refusal> {
+    check(e, MISSING, right_lengths)
+}
+
+/// Refusal 1 for a wrong length, of what is read or of what is lent, then refusal 2 for a byte over
+/// the highest.
+fn check(bytes: &[u8], highest: u8, right_lengths: bool) -> Result<(), Refusal> {
     if !right_lengths {
         return Err(Refusal::WrongLength);
     }
-    if bits.iter().any(|&byte| byte > 1) {
+    if bytes.iter().any(|&byte| byte > highest) {
         return Err(Refusal::NotABit);
     }
     Ok(())
@@ -83,7 +96,7 @@ mod tests {
             NothingSent,
             Ended,
             BadParity { count: 3 },
-            FourFlags,
+            EqualFlags,
         ];
         let numbers: Vec<u8> = refusals.iter().map(|refusal| refusal.number()).collect();
         assert_eq!(numbers, [1, 2, 3, 4, 5, 6, 7, 8, 9]);
@@ -96,10 +109,22 @@ mod tests {
 
     #[test]
     fn the_length_comes_before_the_bytes() {
-        assert_eq!(check(&[0, 2], false), Err(WrongLength));
-        assert_eq!(check(&[0, 2], true), Err(NotABit));
-        assert_eq!(check(&[0, 1], false), Err(WrongLength));
-        assert_eq!(check(&[0, 1], true), Ok(()));
+        for check in [check_sent, check_received] {
+            assert_eq!(check(&[0, 3], false), Err(WrongLength));
+            assert_eq!(check(&[0, 3], true), Err(NotABit));
+            assert_eq!(check(&[0, 1], false), Err(WrongLength));
+            assert_eq!(check(&[0, 1], true), Ok(()));
+        }
+    }
+
+    #[test]
+    fn what_is_received_may_be_missing_and_what_is_sent_may_not() {
+        assert_eq!(check_sent(&[0, 2], true), Err(NotABit));
+        assert_eq!(check_received(&[0, 2], true), Ok(()));
+        for byte in 3..=255 {
+            assert_eq!(check_sent(&[byte, 1], true), Err(NotABit));
+            assert_eq!(check_received(&[byte, 1], true), Err(NotABit));
+        }
     }
 
     #[test]

@@ -4,7 +4,7 @@
 use crate::model::burst::{cut, Interleaving, BURST, FOUR_BURSTS};
 use crate::model::channel::NO_IDENTITY;
 use crate::model::kind::Kind;
-use crate::model::refusal::{check, Refusal};
+use crate::model::refusal::{check_sent, Refusal};
 
 /// So many blocks make a stream full.
 pub const MOST_BLOCKS: usize = 16_383;
@@ -22,7 +22,7 @@ pub struct Sender {
 /// refusals in the order 1, 2.
 fn coded(d: &[u8], lent: usize) -> Result<(Vec<u8>, [u8; 8]), Refusal> {
     let kind = Kind::of_length(d.len()).ok_or(Refusal::WrongLength)?;
-    check(d, lent == FOUR_BURSTS)?;
+    check_sent(d, lent == FOUR_BURSTS)?;
     Ok((kind.channel().coded(NO_IDENTITY, d), kind.flags()))
 }
 
@@ -59,7 +59,7 @@ impl Sender {
     /// 1, 7, 6.
     pub fn end(&mut self, lent: usize) -> Result<Vec<u8>, Refusal> {
         // Nothing is read.
-        check(&[], lent == FOUR_BURSTS)?;
+        check_sent(&[], lent == FOUR_BURSTS)?;
         if self.ended {
             return Err(Refusal::Ended);
         }

@@ -1,5 +1,7 @@
 //! The trellis by whole lists of bits: for each state, the best bits that end in it.
 
+use crate::model::missing::disagrees;
+
 /// Some bits u, and the count of places where their pairs disagree with the received ones.
 #[derive(Clone, Debug, PartialEq)]
 pub struct Survivor {
@@ -29,6 +31,11 @@ fn next_pair(u: &[u8], next: u8) -> [u8; 2] {
     [even % 2, odd % 2]
 }
 
+/// In how many of its two places a coded pair disagrees with the received one.
+fn disagreements(coded: [u8; 2], received: &[u8]) -> usize {
+    (0..2).filter(|&k| disagrees(coded[k], received[k])).count()
+}
+
 /// Compared from the last bit back to u(0), the bits u have the 0 at the first difference.
 fn precedes(u: &[u8], v: &[u8]) -> bool {
     for k in (0..u.len()).rev() {
@@ -50,10 +57,8 @@ impl Survivor {
 
     /// The same bits with one more, laid beside the next received pair.
     fn lengthened(&self, next: u8, received: &[u8]) -> Survivor {
-        let [even, odd] = next_pair(&self.u, next);
-        let more = usize::from(even != received[0]) + usize::from(odd != received[1]);
         Survivor {
-            count: self.count + more,
+            count: self.count + disagreements(next_pair(&self.u, next), received),
             u: [&self.u[..], &[next]].concat(),
         }
     }
@@ -112,6 +117,21 @@ mod tests {
         let u = random_bits(&mut Random::new(20), 100);
         for k in 0..u.len() {
             assert_eq!(next_pair(&u[..k], u[k])[..], convolve(&u)[2 * k..2 * k + 2]);
+        }
+    }
+
+    #[test]
+    fn a_pair_disagrees_in_its_places_that_are_not_missing() {
+        for (coded, received, expected) in [
+            ([0, 1], [0, 1], 0),
+            ([0, 1], [1, 1], 1),
+            ([0, 1], [1, 0], 2),
+            ([0, 1], [2, 0], 1),
+            ([0, 1], [1, 2], 1),
+            ([0, 1], [2, 1], 0),
+            ([0, 1], [2, 2], 0),
+        ] {
+            assert_eq!(disagreements(coded, &received), expected);
         }
     }
 

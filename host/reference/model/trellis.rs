@@ -2,7 +2,7 @@
 
 use crate::model::bits::bits_of;
 use crate::model::exhaustive::Pairs;
-use crate::model::refusal::{check, Refusal};
+use crate::model::refusal::{check_received, Refusal};
 use crate::model::survivors::{state, survivors};
 
 /// Up to this many pairs, all bits are gone through.
@@ -15,10 +15,10 @@ const NONE: usize = 65_535;
 /// Sixteen numbers, by state.
 pub type View = [usize; 16];
 
-/// The view of the received bits; refusal 1 for the length, then refusal 2 for a byte over 1.
+/// The view of the received bits; refusal 1 for the length, then refusal 2 for a byte over 2.
 pub fn view(received: &[u8]) -> Result<View, Refusal> {
     let length = received.len();
-    check(received, length % 2 == 0 && length <= MOST_BITS)?;
+    check_received(received, length % 2 == 0 && length <= MOST_BITS)?;
     if length / 2 <= FEW_PAIRS {
         Ok(view_of_all(received))
     } else {
@@ -51,6 +51,7 @@ fn view_of_survivors(received: &[u8]) -> View {
 mod tests {
     use super::*;
     use crate::chance::lists;
+    use crate::chance::losses::lose_some;
     use crate::chance::random::Random;
     use crate::model::coding::convolve;
     use crate::model::decoding::nearest;
@@ -95,12 +96,14 @@ mod tests {
                 let mut coded = convolve(&lists::random_bits(&mut random, t));
                 let altered = random.below(8);
                 lists::alter(&mut random, &mut coded, altered);
-                for received in [
+                for mut received in [
                     lists::random_bits(&mut random, 2 * t),
                     lists::few_turned(&mut random, 2 * t),
                     lists::pattern(&mut random, 2 * t),
                     coded,
                 ] {
+                    assert_eq!(view_of_all(&received), view_of_survivors(&received));
+                    lose_some(&mut random, &mut received);
                     assert_eq!(view_of_all(&received), view_of_survivors(&received));
                 }
             }
@@ -111,8 +114,35 @@ mod tests {
     fn state_0_has_the_count_of_the_nearest_candidate() {
         let mut random = Random::new(29);
         for n in [4, 11, 12, 13, 18, 19, 39, 189, 228] {
-            let received = lists::random_bits(&mut random, 2 * n);
+            let mut received = lists::random_bits(&mut random, 2 * n);
             assert_eq!(view(&received).unwrap()[0], nearest(&received).count);
+            lose_some(&mut random, &mut received);
+            assert_eq!(view(&received).unwrap()[0], nearest(&received).count);
+        }
+    }
+
+    #[test]
+    fn a_missing_bit_is_in_no_count() {
+        // The pairs are 00 and 11.
+        for (received, zero, one) in [
+            ([2, 1], 1, 0),
+            ([1, 2], 1, 0),
+            ([2, 0], 0, 1),
+            ([0, 2], 0, 1),
+            ([2, 2], 0, 0),
+        ] {
+            assert_eq!(view(&received), Ok(only(&[(0, zero), (8, one)])));
+        }
+    }
+
+    #[test]
+    fn where_all_is_missing_every_count_is_0() {
+        for t in [1, 2, 3, 4, 12, 13, 228] {
+            for (state, count) in view(&vec![2; 2 * t]).unwrap().into_iter().enumerate() {
+                // After one pair states 0 and 8 are reached, then twice as many with each.
+                let is_reached = state % (16 >> t.min(4)) == 0;
+                assert_eq!(count, if is_reached { 0 } else { NONE }, "{} pairs", t);
+            }
         }
     }
 
@@ -126,7 +156,7 @@ mod tests {
                 length
             );
             assert_eq!(
-                view(&vec![2; length]),
+                view(&vec![3; length]),
                 Err(Refusal::WrongLength),
                 "{}",
                 length
@@ -136,9 +166,9 @@ mod tests {
     }
 
     #[test]
-    fn bytes_over_1_are_refused_next() {
+    fn bytes_over_2_are_refused_next() {
         for length in [2, 24, 26, 456] {
-            for byte in [2, 255] {
+            for byte in [3, 255] {
                 let mut received = vec![0; length];
                 received[length - 1] = byte;
                 assert_eq!(view(&received), Err(Refusal::NotABit), "{}", length);

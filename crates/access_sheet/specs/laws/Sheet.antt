@@ -7,7 +7,7 @@ use native.Mathlib.Omega.{arith}
 use lib.Dec.{leb}
 use lib.ListN.{length, getD, take, drop}
 use borrow.Author.Tests.{eq-eqb, ne-eqb}
-use Rattle.bits.specs.Bits.{pick, zeros, allBits}
+use Rattle.bits.specs.Bits.{pick, zeros, noneOver}
 use Rattle.text.specs.Text.{digitOf, bitCharacter, refusedAs}
 use Rattle.answers.specs.Answers.{Meets, tells, numberOf}
 use Rattle.answers.specs.declared.Refusal.{Refusal}
@@ -28,7 +28,7 @@ judged-few true true true x e = let z : _≡_ {A = ℕ} 0 1 = cc in let w : ⊥ 
 
 pub one-digit : (identity : ℕ) (d e after : List ℕ) (r : Told) (x : Refusal) → Meets (accessSent identity d e) r after → r ≡ Refused x → numberOf x ≤ 9
 unfolding accessSent entry tells
-one-digit identity d e after r x m f = judged-few (lengths d 8 e 36) (allBits d) (leb identity 63) x (sym (m .result) ∙ f)
+one-digit identity d e after r x m f = judged-few (lengths d 8 e 36) (noneOver 1 d) (leb identity 63) x (sym (m .result) ∙ f)
 
 -- ---- a head that is read is one, with the identity that its digits write; a bad one is none
 module _ (tens ones gap : ℕ) where

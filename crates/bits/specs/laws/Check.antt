@@ -1,4 +1,4 @@
--- The largest byte of a list says whether all are bits.
+-- The largest byte of a list says whether one is over a bound.
 use mathlib.Core.Bool.{true}
 use mathlib.Core.List.{List, [], _∷_, _++_}
 use mathlib.Core.Path.{_≡_, sym, ap, _∙_}
@@ -8,7 +8,7 @@ use native.Mathlib.Omega.{arith}
 use lib.ListN.{length, getD, take}
 use lib.Seq.{take-suc}
 use borrow.Author.Tests.{leb-true, le-leb}
-use Rattle.bits.specs.Bits.{largest, allBits, Bits}
+use Rattle.bits.specs.Bits.{largest, noneOver, NoneOver}
 
 largest-snoc : (w : List ℕ) (b : ℕ) → largest (w ++ (b ∷ [])) ≡ max (largest w) b
 unfolding largest
@@ -25,18 +25,18 @@ at-most [] k = omega arith
 at-most (b ∷ w) zero = le-max-left b (largest w)
 at-most (b ∷ w) (suc k) = le-trans (at-most w k) (le-max-right b (largest w))
 
-pub all-bits : (w : List ℕ) → allBits w ≡ true → Bits w
-unfolding allBits
-all-bits w t k = le-trans (at-most w k) (leb-true (largest w) 1 t)
+pub none-over : (most : ℕ) (w : List ℕ) → noneOver most w ≡ true → NoneOver most w
+unfolding noneOver
+none-over most w t k = le-trans (at-most w k) (leb-true (largest w) most t)
 
-not-over : (w : List ℕ) → Bits w → largest w ≤ 1
+not-over : (most : ℕ) (w : List ℕ) → NoneOver most w → largest w ≤ most
 unfolding largest
-not-over [] bw = omega arith
-not-over (b ∷ w) bw =
-    let h : b ≤ 1 = bw 0 in
-    let l : largest w ≤ 1 = not-over w (λ k. bw (suc k)) in
+not-over most [] nw = omega arith
+not-over most (b ∷ w) nw =
+    let h : b ≤ most = nw 0 in
+    let l : largest w ≤ most = not-over most w (λ k. nw (suc k)) in
     omega arith
 
-pub bits-all : (w : List ℕ) → Bits w → allBits w ≡ true
-unfolding allBits
-bits-all w bw = le-leb (largest w) 1 (not-over w bw)
+pub over-none : (most : ℕ) (w : List ℕ) → NoneOver most w → noneOver most w ≡ true
+unfolding noneOver
+over-none most w nw = le-leb (largest w) most (not-over most w nw)

@@ -1,11 +1,12 @@
 -- Sums of bit lists, place by place: their length, that they are bits, and that the sum is associative, can be swapped, and undoes itself.
 use mathlib.Core.List.{List, [], _∷_, _++_}
-use mathlib.Core.Path.{_≡_, refl, sym, ap, ap₂, _∙_}
-use Prim.Native.Nat.{ℕ, zero, suc, _≤_, _<_}
+use mathlib.Core.Path.{_≡_, refl, sym, ap, ap₂, _∙_, subst}
+use Prim.Native.Nat.{ℕ, zero, suc, _+_, _≤_, _<_}
 use native.Mathlib.Nat.{not-suc-le-zero, le-of-suc-le-suc}
 use native.Mathlib.Omega.{arith}
 use lib.ListN.{length, getD, take, drop, replicate, length-replicate}
-use Rattle.bits.specs.Bits.{Bits, sum, add, zeros, ones}
+use lib.Seq.{getD-drop}
+use Rattle.bits.specs.Bits.{Bits, NoneOver, sum, add, zeros, ones}
 
 -- ---- sums of bits
 pub sum-assoc : (a b c : ℕ) → sum a (sum b c) ≡ sum (sum a b) c
@@ -47,11 +48,20 @@ pub bits-append : (v w : List ℕ) → Bits v → Bits w → Bits (v ++ w)
 bits-append [] w bv bw = bw
 bits-append (a ∷ v) w bv bw = bits-cons a (v ++ w) (bv 0) (bits-append v w (λ k. bv (suc k)) bw)
 
+pub over-take : (most n : ℕ) (w : List ℕ) → NoneOver most w → NoneOver most (take n w)
+over-take most zero w nw k = omega arith
+over-take most (suc n) [] nw k = nw k
+over-take most (suc n) (b ∷ w) nw zero = nw 0
+over-take most (suc n) (b ∷ w) nw (suc k) = over-take most n w (λ i. nw (suc i)) k
+
+pub over-drop : (most n : ℕ) (w : List ℕ) → NoneOver most w → NoneOver most (drop n w)
+over-drop most n w nw k = subst (λ (x : ℕ). x ≤ most) (sym (getD-drop n w k 0)) (nw (n + k))
+
 pub bits-take : (n : ℕ) (w : List ℕ) → Bits w → Bits (take n w)
-bits-take zero w bw k = omega arith
-bits-take (suc n) [] bw k = bw k
-bits-take (suc n) (b ∷ w) bw zero = bw 0
-bits-take (suc n) (b ∷ w) bw (suc k) = bits-take n w (λ i. bw (suc i)) k
+bits-take n w bw = over-take 1 n w bw
+
+pub bits-drop : (n : ℕ) (w : List ℕ) → Bits w → Bits (drop n w)
+bits-drop n w bw = over-drop 1 n w bw
 
 -- ---- add
 pub length-add : (s w : List ℕ) → length (add s w) ≡ length w

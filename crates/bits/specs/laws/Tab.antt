@@ -11,7 +11,7 @@ use lib.ListN.{length, getD, set, length-set, length-append, List·getD-append, 
 use lib.Seq.{ext-getD, getD-set-same, getD-set-other, getD-append-add}
 use borrow.Author.Count.{below-more}
 use borrow.Author.Tests.{eq-eqb, ne-eqb}
-use Rattle.bits.specs.Bits.{Bits, pick, tab, tabFrom, both, allBelow}
+use Rattle.bits.specs.Bits.{Bits, NoneOver, pick, tab, tabFrom, both, allBelow}
 use Rattle.bits.specs.laws.Cases.{lt-or-le}
 
 -- ---- one computed test over a range gives the rule at each number
@@ -58,11 +58,14 @@ is-tab n f xs l h =
 pub tab-same : (n : ℕ) (f g : ℕ → ℕ) → ((k : ℕ) → k < n → f k ≡ g k) → tab n f ≡ tab n g
 tab-same n f g h = is-tab n g (tab n f) (length-tab n f) (λ k lt. at-tab n f k lt ∙ h k lt)
 
-pub bits-tab : (n : ℕ) (f : ℕ → ℕ) → ((k : ℕ) → f k ≤ 1) → Bits (tab n f)
-bits-tab n f h k =
+pub over-tab : (most n : ℕ) (f : ℕ → ℕ) → ((k : ℕ) → f k ≤ most) → NoneOver most (tab n f)
+over-tab most n f h k =
     ⊎-elim (λ (l : k < n). rw (at-tab n f k l) (h k))
     (λ (l : n ≤ k). rw (List·getD-eq-default (tab n f) 0 {n = k} (rw (length-tab n f) l)) (omega arith))
     (lt-or-le k n)
+
+pub bits-tab : (n : ℕ) (f : ℕ → ℕ) → ((k : ℕ) → f k ≤ 1) → Bits (tab n f)
+bits-tab n f h = over-tab 1 n f h
 
 -- ---- a loop that fills out[x] = f x for rising x, up to n: its invariant, its start, its turn and its end
 abbrev pub Filled : (ℕ → ℕ) → ℕ → ℕ → List ℕ → Type 0

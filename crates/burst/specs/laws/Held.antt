@@ -1,31 +1,33 @@
--- A block out of the held bursts: the lowest bits of what is gathered are its coded bits; and its flags, put one by one into a number, fit
--- eight bits, and the number has as many ones as flags are 1.
+-- A block out of the held bursts: what is gathered are its coded bits; and those of its flags that say b, put one by one into a number, fit
+-- eight bits, and the number has as many ones as flags say b.
+use mathlib.Core.Bool.{Bool, true, false}
 use mathlib.Core.List.{List}
 use mathlib.Core.Path.{_≡_, refl, ap, ap₂, _∙_, subst}
 use Prim.Native.Nat.{ℕ, zero, suc, _+_, _*_, _%_, _^_, _≤_, _<_}
 use native.Mathlib.Numerals.{add-one}
 use native.Mathlib.Omega.{arith}
 use lib.Count.{ones, ones-cat}
+use lib.Dec.{eqb}
 use lib.ListN.{length, getD}
 use lib.Pow.{pow-mono}
-use Rattle.bits.specs.Bits.{tab, tabFrom, total, value}
+use Rattle.bits.specs.Bits.{pick, symbol, tab, tabFrom, total, value}
 use Rattle.bits.specs.laws.Tab.{at-tab, length-tab, tab-same, tab-more, bits-tab}
 use Rattle.bits.specs.laws.Value.{value-lt, value-snoc}
 use Rattle.burst.specs.Numbers.{firstBurst}
 use Rattle.places.specs.Places.{eAt}
 use Rattle.burst.specs.Ring.{heldBit, inOrder}
-use Rattle.burst.specs.Held.{heldBlockAt, heldBlock, heldFlagAt, heldFlags}
+use Rattle.burst.specs.Held.{heldBlockAt, heldBlock, saying, sayers, heldFlagAt, heldFlags}
 use Rattle.places.specs.laws.Places.{every-bit}
 use Rattle.burst.specs.laws.Ring.{in-order-at}
 use Rattle.places.specs.laws.Table.{placedIn}
 
 -- ---- the coded bits of block n, of the bursts w in order and what is gathered of them
 module _ (held : List ℕ) (n : ℕ) (lh : length held ≡ 928) where
-  found : (k : ℕ) → k < 456 → placedIn (inOrder held (firstBurst n)) k % 2 ≡ heldBlockAt held n k
+  found : (k : ℕ) → k < 456 → symbol (placedIn (inOrder held (firstBurst n)) k) ≡ heldBlockAt held n k
   unfolding placedIn heldBlockAt
   found k h = in-order-at held (firstBurst n) (k % 8) (eAt k) lh (omega arith) (every-bit k h .within)
 
-  pub held-block-is : (b : ℕ) (w c z : List ℕ) → b ≡ firstBurst n → w ≡ inOrder held b → c ≡ tab 456 (placedIn w) → z ≡ tab (length c) (λ k. getD c k 0 % 2)
+  pub held-block-is : (b : ℕ) (w c z : List ℕ) → b ≡ firstBurst n → w ≡ inOrder held b → c ≡ tab 456 (placedIn w) → z ≡ tab (length c) (λ k. symbol (getD c k 0))
       → z ≡ heldBlock held n
   unfolding heldBlock
   held-block-is b w c z eb ew ec ez =
@@ -33,9 +35,9 @@ module _ (held : List ℕ) (n : ℕ) (lh : length held ≡ 928) where
       let is : c ≡ tab 456 (placedIn s) = ec ∙ ap (λ (v : List ℕ). tab 456 (placedIn v)) (ew ∙ ap (inOrder held) eb) in
       let long : length c ≡ 456 = ap length is ∙ length-tab 456 (placedIn s) in
       ez
-      ∙ ap (λ (m : ℕ). tab m (λ k. getD c k 0 % 2)) long
-      ∙ tab-same 456 (λ k. getD c k 0 % 2) (heldBlockAt held n)
-      (λ k h. ap (λ (v : List ℕ). getD v k 0 % 2) is ∙ ap (λ (x : ℕ). x % 2) (at-tab 456 (placedIn s) k h) ∙ found k h)
+      ∙ ap (λ (m : ℕ). tab m (λ k. symbol (getD c k 0))) long
+      ∙ tab-same 456 (λ k. symbol (getD c k 0)) (heldBlockAt held n)
+      (λ k h. ap (λ (v : List ℕ). symbol (getD v k 0)) is ∙ ap symbol (at-tab 456 (placedIn s) k h) ∙ found k h)
 
 -- ---- flags, one by one into a number of n bits
 module _ (f : ℕ → ℕ) where
@@ -69,11 +71,27 @@ module _ (f : ℕ → ℕ) (bits : (i : ℕ) → f i ≤ 1) where
       let most : 2 ^ n ≤ 2 ^ 7 = pow-mono few in
       omega (arith, below, most, ev)
 
--- ---- the flags of block n are bits, so that their number has as many ones as flags are 1
-pub held-flag-bit : (held : List ℕ) (n i : ℕ) → heldFlagAt held n i ≤ 1
-unfolding heldFlagAt heldBit
-held-flag-bit held n i = omega arith
+-- ---- the votes
+-- 02, M-102: a missing flag has no vote
+pub missing-says-neither : (b : ℕ) → b ≤ 1 → saying b 2 ≡ 0
+unfolding saying
+missing-says-neither zero h = refl
+missing-says-neither (suc zero) h = refl
+missing-says-neither (suc (suc b)) h = let z : ⊥ = omega arith in absurd z
 
-pub held-ones : (held : List ℕ) (n : ℕ) → ones (heldFlags held n) ≡ total 8 (heldFlagAt held n)
+-- whether a flag says b is a bit, so that the number of those that do has as many ones as there are
+pub saying-bit : (b flag : ℕ) → saying b flag ≤ 1
+unfolding saying
+saying-bit b flag = either (eqb flag b)
+  where
+    either : (t : Bool) → pick t 1 0 ≤ 1
+    either true = omega arith
+    either false = omega arith
+
+pub sayers-ones : (b : ℕ) (flag : ℕ → ℕ) → ones (sayers b flag) ≡ total 8 (λ i. saying b (flag i))
+unfolding sayers
+sayers-ones b flag = ones-of-flags (λ i. saying b (flag i)) (λ i. saying-bit b (flag i)) 8
+
+pub held-ones : (b : ℕ) (held : List ℕ) (n : ℕ) → ones (heldFlags b held n) ≡ total 8 (λ i. saying b (heldFlagAt held n i))
 unfolding heldFlags
-held-ones held n = ones-of-flags (heldFlagAt held n) (held-flag-bit held n) 8
+held-ones b held n = sayers-ones b (heldFlagAt held n)

@@ -1,4 +1,4 @@
--- What is put into the ring is found there, the other bursts stand, and in order they stand one after another.
+-- What is put into the ring is found there, missing bits too; the other bursts stand, and in order they stand one after another.
 use mathlib.Core.List.{List, _++_}
 use mathlib.Core.Logic.{⊎-elim}
 use mathlib.Core.Path.{_≡_, refl, ap, ap₂, _∙_}
@@ -6,7 +6,9 @@ use Prim.Native.Nat.{ℕ, _+_, _-_, _*_, _%_, _≤_, _<_}
 use native.Mathlib.Omega.{arith}
 use lib.ListN.{length, getD, take, drop, length-append, length-drop}
 use lib.Seq.{length-take-le, take-all, getD-take, getD-drop, drop-drop}
+use Rattle.bits.specs.Bits.{symbol}
 use Rattle.bits.specs.laws.Cases.{lt-or-le}
+use Rattle.bits.specs.laws.Missing.{symbol-same}
 use Rattle.bits.specs.laws.Parts.{put, put-two}
 use Rattle.bits.specs.laws.Tab.{at-left, at-right}
 use Rattle.burst.specs.Ring.{heldBit, kept, inOrder}
@@ -39,15 +41,15 @@ module _ (held e : List ℕ) (B : ℕ) (lh : length held ≡ 928) (le : length e
       let l : length (drop (a + 116) held) ≡ length held - (a + 116) = length-drop (a + 116) held in
       rw (length-append (take a held) (e ++ drop (a + 116) held), length-append e (drop (a + 116) held), length-take-le a held (omega (arith, lh)), le, l) (omega (arith, lh))
 
-  pub kept-same : (x : ℕ) → x < 116 → heldBit (kept held B e) B x ≡ getD e x 0 % 2
+  pub kept-same : (x : ℕ) → x < 116 → getD e x 0 ≤ 2 → heldBit (kept held B e) B x ≡ getD e x 0
   unfolding kept heldBit
-  kept-same x h =
-      ap (λ (v : ℕ). v % 2)
-      (at-right front (e ++ rest) at x (at + x) front-long refl ∙ at-left e rest x (omega (arith, le)))
+  kept-same x h l =
+      ap symbol (at-right front (e ++ rest) at x (at + x) front-long refl ∙ at-left e rest x (omega (arith, le)))
+      ∙ symbol-same (getD e x 0) l
 
   pub kept-other : (b x : ℕ) → x < 116 → (b % 8 ≡ B % 8 → ⊥) → heldBit (kept held B e) b x ≡ heldBit held b x
   unfolding kept heldBit
-  kept-other b x h other = ap (λ (v : ℕ). v % 2) (⊎-elim before behind (lt-or-le (b % 8) (B % 8)))
+  kept-other b x h other = ap symbol (⊎-elim before behind (lt-or-le (b % 8) (B % 8)))
     where
       before : b % 8 < B % 8 → getD (front ++ (e ++ rest)) (116 * (b % 8) + x) 0 ≡ getD held (116 * (b % 8) + x) 0
       before l =
@@ -80,9 +82,9 @@ in-order-is held bursts y z B a ea lh lb ey ez =
     ∙ ap (λ (k : ℕ). drop k held ++ take k held) ea
 
 -- e(x) of the burst that is r after the first
-pub in-order-at : (held : List ℕ) (B r x : ℕ) → length held ≡ 928 → r < 8 → x < 116 → getD (inOrder held B) (116 * r + x) 0 % 2 ≡ heldBit held (B + r) x
+pub in-order-at : (held : List ℕ) (B r x : ℕ) → length held ≡ 928 → r < 8 → x < 116 → symbol (getD (inOrder held B) (116 * r + x) 0) ≡ heldBit held (B + r) x
 unfolding inOrder heldBit
-in-order-at held B r x lh hr hx = ap (λ (v : ℕ). v % 2) (⊎-elim before behind (lt-or-le (B % 8 + r) 8))
+in-order-at held B r x lh hr hx = ap symbol (⊎-elim before behind (lt-or-le (B % 8 + r) 8))
   where
     before : B % 8 + r < 8 → getD (drop (116 * (B % 8)) held ++ take (116 * (B % 8)) held) (116 * r + x) 0 ≡ getD held (116 * ((B + r) % 8) + x) 0
     before l =

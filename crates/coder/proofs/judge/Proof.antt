@@ -15,15 +15,15 @@ returns-2 c = simp (eq-eqb _ _ (c .before .if1 .left), ne-eqb _ _ (c .if2 .taken
 
 returns-3 : tie.Need-returns-3
 unfolding judged
-returns-3 c = simp (eq-eqb _ _ (c .before .before .before .if1 .left), eq-eqb _ _ (c .before .before .if2 .left), ← c .before .are-bits .ensures, not-true (c .before .are-bits .result) (c .if3 .taken))
+returns-3 c = simp (eq-eqb _ _ (c .before .before .before .if1 .left), eq-eqb _ _ (c .before .before .if2 .left), ← c .before .none-over .ensures, not-true (c .before .none-over .result) (c .if3 .taken))
 
 returns-4 : tie.Need-returns-4
 unfolding judged
-returns-4 c = simp (eq-eqb _ _ (c .before .before .before .before .if1 .left), eq-eqb _ _ (c .before .before .before .if2 .left), ← c .before .before .are-bits .ensures, not-false (c .before .before .are-bits .result) (c .before .if3 .left), lt-leb _ _ (c .if4 .taken))
+returns-4 c = simp (eq-eqb _ _ (c .before .before .before .before .if1 .left), eq-eqb _ _ (c .before .before .before .if2 .left), ← c .before .before .none-over .ensures, not-false (c .before .before .none-over .result) (c .before .if3 .left), lt-leb _ _ (c .if4 .taken))
 
 returns-5 : tie.Need-returns-5
 unfolding judged
-returns-5 c = simp (eq-eqb _ _ (c .before .before .before .before .if1 .left), eq-eqb _ _ (c .before .before .before .if2 .left), ← c .before .before .are-bits .ensures, not-false (c .before .before .are-bits .result) (c .before .if3 .left), le-leb _ _ (c .if4 .left))
+returns-5 c = simp (eq-eqb _ _ (c .before .before .before .before .if1 .left), eq-eqb _ _ (c .before .before .before .if2 .left), ← c .before .before .none-over .ensures, not-false (c .before .before .none-over .result) (c .before .if3 .left), le-leb _ _ (c .if4 .left))
 
 pub judge-spec : {M : Type 1} → statement M
 judge-spec = tie.close (tie.spec returns returns-2 (λ c κs. search needs) returns-3 returns-4 returns-5)

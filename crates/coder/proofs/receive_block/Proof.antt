@@ -14,8 +14,8 @@ receive-requires c κs =
     let j = c .before .before .before .judge in
     let told = c .before .enum-told .given .1 in (
       start .pre,
-      done-given (s .c .now) (s .d .now) (s .f .coded) (s .f .bits) (s .identity) (j .result) (j .ensures) told,
-      identity-fits (start .pre) (done-identity (s .c .now) (s .d .now) (s .f .coded) (s .f .bits) (s .identity) (j .result) (j .ensures) told),
+      done-given 2 (s .c .now) (s .d .now) (s .f .coded) (s .f .bits) (s .identity) (j .result) (j .ensures) told,
+      identity-fits (start .pre) (done-identity 2 (s .c .now) (s .d .now) (s .f .coded) (s .f .bits) (s .identity) (j .result) (j .ensures) told),
     )
 
 returns : tie.Need-returns

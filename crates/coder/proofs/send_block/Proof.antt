@@ -12,7 +12,7 @@ code-requires c κs =
     let start = c .before .before .before .before .before .before in
     let s = start .args in
     let j = c .before .before .before .judge in
-    let given = done-given (s .d .now) (s .c .now) (s .f .bits) (s .f .coded) (s .identity) (j .result) (j .ensures) (c .before .enum-told .given .1) in
+    let given = done-given 1 (s .d .now) (s .c .now) (s .f .bits) (s .f .coded) (s .identity) (j .result) (j .ensures) (c .before .enum-told .given .1) in
     (start .pre .generates, given .bits, omega (arith, given .reads, start .pre .short), omega (arith, given .reads, given .lends, start .pre .long))
 
 returns : tie.Need-returns

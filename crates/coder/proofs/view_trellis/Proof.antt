@@ -5,7 +5,7 @@ use borrow.Author.Tests.{eq-eqb, ne-eqb, le-leb, lt-leb, not-true, not-false}
 use Rattle.coder.specs.Entries.{judged}
 use Rattle.answers.specs.declared.Refusal.the-variants.{Length, NotBits}
 use Rattle.coder.specs.laws.Entries.{view-refused, view-done}
-use Rattle.bits.specs.laws.Check.{all-bits}
+use Rattle.bits.specs.laws.Check.{none-over}
 use mathlib.Core.Path.{sym, _∙_}
 use Rattle.coder.proofs.view_trellis.Statement.{statement}
 use Rattle.coder.proofs.view_trellis.Tie as tie
@@ -29,7 +29,7 @@ unfolding judged
 returns-3 c =
     let s = c .before .before .before .before .before .before .args in
     let v = c .unseen3 in
-    let b = c .before .before .are-bits in
+    let b = c .before .before .none-over in
     let e = c .before .before .before .before in
     view-refused (s .r .now) NotBits (v .result .told) (v .result .row) (v .ensures .0) (v .ensures .1)
     (simp (eq-eqb _ _ (e .if1 .left), le-leb _ _ (c .before .before .before .if2 .left), ← b .ensures, not-true (b .result) (c .before .if3 .taken)))
@@ -37,18 +37,18 @@ returns-3 c =
 view-requires : tie.Need-view-requires
 view-requires c κs =
     let s = c .before .before .before .before .before .args in
-    let b = c .before .are-bits in
+    let b = c .before .none-over in
     let short = c .before .before .if2 .left in (
       omega (arith, short),
       c .before .before .before .if1 .left,
-      all-bits (s .r .now) (sym (b .ensures) ∙ not-false (b .result) (c .if3 .left)),
+      none-over 2 (s .r .now) (sym (b .ensures) ∙ not-false (b .result) (c .if3 .left)),
     )
 
 returns-4 : tie.Need-returns-4
 unfolding judged
 returns-4 c =
     let s = c .before .before .before .before .before .before .args in
-    let b = c .before .before .are-bits in
+    let b = c .before .before .none-over in
     let e = c .before .before .before .before in
     view-done (s .r .now) (c .view .result) (c .view .ensures)
     (simp (eq-eqb _ _ (e .if1 .left), le-leb _ _ (c .before .before .before .if2 .left), ← b .ensures, not-false (b .result) (c .before .if3 .left)))

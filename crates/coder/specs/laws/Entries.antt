@@ -7,9 +7,9 @@ use lib.Dec.{eqb, leb}
 use lib.ListN.{length, getD}
 use native.Mathlib.Omega.{arith}
 use borrow.Author.Tests.{eqb-true, leb-true, eq-eqb, le-leb}
-use Rattle.bits.specs.Bits.{Bits, allBits}
+use Rattle.bits.specs.Bits.{Bits, noneOver}
 use Rattle.bits.specs.laws.Cases.{both-first, both-second}
-use Rattle.bits.specs.laws.Check.{all-bits, bits-all}
+use Rattle.bits.specs.laws.Check.{none-over, over-none}
 use Rattle.bits.specs.laws.Tab.{at-tab}
 use Rattle.trellis.specs.Nearest.{row, rowAt, Fewest}
 use Rattle.trellis.specs.laws.Nearest.{row-fewest}
@@ -34,14 +34,14 @@ done-held true false i e = let z : _≡_ {A = ℕ} 0 1 = cc in let w : ⊥ = ome
 done-held false b i e = let z : _≡_ {A = ℕ} 0 1 = cc in let w : ⊥ = omega arith in absurd w
 
 -- what then holds of what an entry read, of n bits into m bytes
-module _ (d c : List ℕ) (n m i : ℕ) (r : Told) (e : r ≡ judged (lengths d n c m) (allBits d) (leb i 63)) (f : r ≡ Done) where
-  held : AllHeld (lengths d n c m) (allBits d) (leb i 63)
-  held = done-held (lengths d n c m) (allBits d) (leb i 63) (sym e ∙ f)
+module _ (most : ℕ) (d c : List ℕ) (n m i : ℕ) (r : Told) (e : r ≡ judged (lengths d n c m) (noneOver most d) (leb i 63)) (f : r ≡ Done) where
+  held : AllHeld (lengths d n c m) (noneOver most d) (leb i 63)
+  held = done-held (lengths d n c m) (noneOver most d) (leb i 63) (sym e ∙ f)
 
-  pub done-given : Given n m d c
+  pub done-given : Given most n m d c
   done-given = record {
     reads = eqb-true (length d) n (both-first (eqb (length d) n) (eqb (length c) m) (held .lengths));
-    bits = all-bits d (held .bits);
+    bits = none-over most d (held .bits);
     lends = eqb-true (length c) m (both-second (eqb (length d) n) (eqb (length c) m) (held .lengths));
   }
 
@@ -49,42 +49,41 @@ module _ (d c : List ℕ) (n m i : ℕ) (r : Told) (e : r ≡ judged (lengths d 
   done-identity = leb-true i 63 (held .identity)
 
 -- ---- the two ways in which an entry ends
-module _ (n m i : ℕ) (d sent c : List ℕ) (r : Told) (e : r ≡ judged (lengths d n c m) (allBits d) (leb i 63)) where
+module _ (n m i : ℕ) (d sent c : List ℕ) (r : Told) (e : r ≡ judged (lengths d n c m) (noneOver 1 d) (leb i 63)) where
   pub entry-done : (after : List ℕ) → r ≡ Done → after ≡ sent → Meets (entry n m i d sent c) r after
   unfolding entry
-  entry-done after f g = tells-done (judged (lengths d n c m) (allBits d) (leb i 63)) sent c r e after f g
+  entry-done after f g = tells-done (judged (lengths d n c m) (noneOver 1 d) (leb i 63)) sent c r e after f g
 
   pub entry-refused : (x : Refusal) → r ≡ Refused x → Meets (entry n m i d sent c) r c
   unfolding entry
-  entry-refused x f = tells-refused (judged (lengths d n c m) (allBits d) (leb i 63)) sent c r e x f
+  entry-refused x f = tells-refused (judged (lengths d n c m) (noneOver 1 d) (leb i 63)) sent c r e x f
 
 -- ---- an entry that is given what it should be is done
-module _ (n m i : ℕ) (d c : List ℕ) (h : i ≤ 63) (g : Given n m d c) where
-  pub done : judged (lengths d n c m) (allBits d) (leb i 63) ≡ Done
-  unfolding judged
-  done = rw (eq-eqb (length d) n (g .reads), eq-eqb (length c) m (g .lends), bits-all d (g .bits), le-leb i 63 h) refl
+pub done : (most n m i : ℕ) (d c : List ℕ) → i ≤ 63 → Given most n m d c → judged (lengths d n c m) (noneOver most d) (leb i 63) ≡ Done
+unfolding judged
+done most n m i d c h g = rw (eq-eqb (length d) n (g .reads), eq-eqb (length c) m (g .lends), over-none most d (g .bits), le-leb i 63 h) refl
 
-  pub sends : (sent : List ℕ) → entry n m i d sent c ≡ record { result = Done; left = sent }
-  unfolding entry tells sentOr
-  sends sent = ap (λ (t : Told). tells t sent c) done
+pub sends : (n m i : ℕ) (d c : List ℕ) → i ≤ 63 → Given 1 n m d c → (sent : List ℕ) → entry n m i d sent c ≡ record { result = Done; left = sent }
+unfolding entry tells sentOr
+sends n m i d c h g sent = ap (λ (t : Told). tells t sent c) (done 1 n m i d c h g)
 
 -- an entry that is done read bits: so it may send what is the same for bits
 pub same-sent : (n m i : ℕ) (d x y c : List ℕ) (r : Told) (after : List ℕ) → (Bits d → i ≤ 63 → x ≡ y)
     → Meets (entry n m i d x c) r after → Meets (entry n m i d y c) r after
 unfolding entry tells sentOr
-same-sent n m i d x y c r after same met = record { result = met .result; left = met .left ∙ by-told (judged (lengths d n c m) (allBits d) (leb i 63)) refl }
+same-sent n m i d x y c r after same met = record { result = met .result; left = met .left ∙ by-told (judged (lengths d n c m) (noneOver 1 d) (leb i 63)) refl }
   where
-    by-told : (t : Told) → judged (lengths d n c m) (allBits d) (leb i 63) ≡ t → sentOr t x c ≡ sentOr t y c
-    by-told Done e = same (done-given d c n m i Done (sym e) refl .bits) (done-identity d c n m i Done (sym e) refl)
+    by-told : (t : Told) → judged (lengths d n c m) (noneOver 1 d) (leb i 63) ≡ t → sentOr t x c ≡ sentOr t y c
+    by-told Done e = same (done-given 1 d c n m i Done (sym e) refl .bits) (done-identity 1 d c n m i Done (sym e) refl)
     by-told (Refused z) e = refl
 
 -- ---- the two ways in which the trellis view ends
 module _ (r : List ℕ) where
-  pub view-refused : (x : Refusal) (told : Told) (seen : List ℕ) → told ≡ Refused x → seen ≡ unreached → judged (viewLength r) (allBits r) true ≡ Refused x → Meets (trellisViewed r) told seen
+  pub view-refused : (x : Refusal) (told : Told) (seen : List ℕ) → told ≡ Refused x → seen ≡ unreached → judged (viewLength r) (noneOver 2 r) true ≡ Refused x → Meets (trellisViewed r) told seen
   unfolding trellisViewed tells sentOr
   view-refused x told seen e f g = record { result = e ∙ sym g; left = f ∙ ap (λ (s : Told). sentOr s (row r (length r / 2)) unreached) (sym g) }
 
-  pub view-done : (seen : List ℕ) → seen ≡ row r (length r / 2) → judged (viewLength r) (allBits r) true ≡ Done → Meets (trellisViewed r) Done seen
+  pub view-done : (seen : List ℕ) → seen ≡ row r (length r / 2) → judged (viewLength r) (noneOver 2 r) true ≡ Done → Meets (trellisViewed r) Done seen
   unfolding trellisViewed tells sentOr
   view-done seen f g = record { result = sym g; left = f ∙ ap (λ (s : Told). sentOr s (row r (length r / 2)) unreached) (sym g) }
 
@@ -92,7 +91,7 @@ module _ (r : List ℕ) where
   pub view-fewest : (seen : List ℕ) → Meets (trellisViewed r) Done seen → (s : ℕ) → s < 16 → Fewest r (length r / 2) s (getD seen s 0)
   unfolding trellisViewed tells sentOr row
   view-fewest seen m s h =
-      let held = done-held (viewLength r) (allBits r) true (sym (m .result)) in
+      let held = done-held (viewLength r) (noneOver 2 r) true (sym (m .result)) in
       let short = leb-true (length r) (2 * viewed) (both-second (eqb (length r % 2) 0) (leb (length r) (2 * viewed)) (held .lengths)) in
       let is-row : seen ≡ row r (length r / 2) = m .left ∙ ap (λ (t : Told). sentOr t (row r (length r / 2)) unreached) (sym (m .result)) in
       subst (Fewest r (length r / 2) s) (sym (ap (λ (w : List ℕ). getD w s 0) is-row ∙ at-tab 16 (rowAt r (length r / 2)) s h)) (row-fewest r (length r / 2) s (omega (arith, short)) h)

@@ -7,16 +7,16 @@ use native.Mathlib.Omega.{arith}
 use lib.Bits.{bitXor}
 use lib.Dec.{eqb, leb}
 use lib.ListN.{length, take, drop}
-use lib.Seq.{length-take-le, take-add, take-append-le, getD-drop}
+use lib.Seq.{length-take-le, take-add, take-append-le}
 use lib.Pow.{pow-pos}
 use native.Mathlib.Nat.{pow-succ'}
-use Rattle.bits.specs.Bits.{Bits, allBits, pick, add, digits, value, ones, zeros}
-use Rattle.bits.specs.laws.Sum.{length-add, bits-add, add-assoc, bits-take, length-ones}
+use Rattle.bits.specs.Bits.{Bits, Symbols, noneOver, pick, add, digits, value, ones, zeros}
+use Rattle.bits.specs.laws.Sum.{length-add, bits-add, add-assoc, bits-take, bits-drop, length-ones}
 use Rattle.bits.specs.laws.Value.{length-digits, bits-digits, value-digits, value-add}
 use Rattle.parity.specs.Division.{remainder}
 use Rattle.parity.specs.laws.Division.{remainder-after}
 use Rattle.bits.specs.laws.Parts.{length-lent}
-use Rattle.bits.specs.laws.Tab.{bits-tab, length-tab}
+use Rattle.bits.specs.laws.Tab.{over-tab, length-tab}
 use Rattle.places.specs.Places.{eAt, gatheredAt, gathered}
 use Rattle.parity.specs.Asked.{Generates}
 use Rattle.trellis.specs.Nearest.{Candidate, nearest, nearestCount}
@@ -58,9 +58,6 @@ value-ones (suc r) =
     let long : length (ones r) ≡ r = length-ones r in
     ap₂ (λ (k x : ℕ). 1 * 2 ^ k + x) long (value-ones r) ∙ omega (arith, one, twice)
 
-pub bits-drop : (n : ℕ) (w : List ℕ) → Bits w → Bits (drop n w)
-bits-drop n w bw k = subst (λ (x : ℕ). x ≤ 1) (sym (getD-drop n w k 0)) (bw (n + k))
-
 -- ---- what is told of a block that is heard, by the verdict
 module _ (h : Hearing) (d : List ℕ) (t : Bool) (e : t ≡ h .good) (k : ℕ) (ek : k ≡ h .count) where
   said : (b : Bool) → t ≡ b → pick b (Good k) (Bad k) ≡ verdict h
@@ -76,7 +73,7 @@ module _ (h : Hearing) (d : List ℕ) (t : Bool) (e : t ≡ h .good) (k : ℕ) (
   handed-bad f = record { result = said false f; left = ap (λ (x : Heard). heardOr x (h .bits) d) (said false f) }
 
 -- ---- the nearest block, which stands at the front of v: what is divided, the bits, the count and the verdict
-module _ (f : Format) (colour : ℕ) (c d rest v : List ℕ) (fits : Fits f) (given : Given (f .coded) (f .bits) c d) (ev : v ≡ nearest c (size f) ++ rest) where
+module _ (f : Format) (colour : ℕ) (c d rest v : List ℕ) (fits : Fits f) (given : Given 2 (f .coded) (f .bits) c d) (ev : v ≡ nearest c (size f) ++ rest) where
   abbrev u : List ℕ
   u = nearest c (size f)
 
@@ -134,39 +131,39 @@ module _ (f : Format) (colour : ℕ) (c d rest v : List ℕ) (fits : Fits f) (gi
       (value-ones (length g) ∙ ap (λ (k : ℕ). 2 ^ k - 1) long-g))
 
 -- ---- the two ways in which a receiving entry ends
-module _ (n m i : ℕ) (c d : List ℕ) (h : Hearing) (j : Told) (e : j ≡ judged (lengths c n d m) (allBits c) (leb i 63)) where
+module _ (n m i : ℕ) (c d : List ℕ) (h : Hearing) (j : Told) (e : j ≡ judged (lengths c n d m) (noneOver 2 c) (leb i 63)) where
   pub reception-done : (r : Heard) (after : List ℕ) → j ≡ told.Done → Meets (hands h d) r after → Meets (reception n m i c h d) r after
   unfolding reception judgedHearing hands hears
   reception-done r after f o =
-      let t : verdict h ≡ judgedHearing (judged (lengths c n d m) (allBits c) (leb i 63)) h = ap (λ (x : Told). judgedHearing x h) (sym f ∙ e) in
+      let t : verdict h ≡ judgedHearing (judged (lengths c n d m) (noneOver 2 c) (leb i 63)) h = ap (λ (x : Told). judgedHearing x h) (sym f ∙ e) in
       record { result = o .result ∙ t; left = o .left ∙ ap (λ (x : Heard). heardOr x (h .bits) d) t }
 
   pub reception-refused : (x : Refusal) → j ≡ told.Refused x → Meets (reception n m i c h d) (Refused x) d
   unfolding reception judgedHearing hears heardOr
   reception-refused x f =
-      let t : Refused x ≡ judgedHearing (judged (lengths c n d m) (allBits c) (leb i 63)) h = ap (λ (y : Told). judgedHearing y h) (sym f ∙ e) in
+      let t : Refused x ≡ judgedHearing (judged (lengths c n d m) (noneOver 2 c) (leb i 63)) h = ap (λ (y : Told). judgedHearing y h) (sym f ∙ e) in
       record { result = t; left = ap (λ (y : Heard). heardOr y (h .bits) d) t }
 
 -- ---- an entry that is given what it should be hears the block
-module _ (n m i : ℕ) (c d : List ℕ) (l : i ≤ 63) (g : Given n m c d) (h : Hearing) (k : ℕ) (ek : h .count ≡ k) where
+module _ (n m i : ℕ) (c d : List ℕ) (l : i ≤ 63) (g : Given 2 n m c d) (h : Hearing) (k : ℕ) (ek : h .count ≡ k) where
   pub hears-good : (bits : List ℕ) → h .good ≡ true → h .bits ≡ bits → reception n m i c h d ≡ record { result = Good k; left = bits }
   unfolding reception judgedHearing verdict hears heardOr
-  hears-good bits eg eb = rw (done n m i c d l g, eg, ek, eb) refl
+  hears-good bits eg eb = rw (done 2 n m i c d l g, eg, ek, eb) refl
 
   pub hears-bad : h .good ≡ false → reception n m i c h d ≡ record { result = Bad k; left = d }
   unfolding reception judgedHearing verdict hears heardOr
-  hears-bad eg = rw (done n m i c d l g, eg, ek) refl
+  hears-bad eg = rw (done 2 n m i c d l g, eg, ek) refl
 
 -- a generator by its number and by its name
 pub same-reception : {g G : List ℕ} → g ≡ G → (n m i : ℕ) (c d : List ℕ) (r : Heard) (after : List ℕ)
     → Meets (reception m n i c (blockHeard g i n c) d) r after → Meets (reception m n i c (blockHeard G i n c) d) r after
 same-reception eg n m i c d r after = subst (λ (x : List ℕ). Meets (reception m n i c (blockHeard x i n c) d) r after) eg
 
--- ---- a SACCH message's control block is bits, and may be received
-pub message-given : (e d c : List ℕ) → Bits e → length d ≡ 184 → c ≡ gathered e → Given 456 184 c d
+-- ---- a SACCH message's control block may be received
+pub message-given : (e d c : List ℕ) → Symbols e → length d ≡ 184 → c ≡ gathered e → Given 2 456 184 c d
 unfolding gathered gatheredAt
 message-given e d c be ld ec = record {
   reads = ap length ec ∙ length-tab 456 (gatheredAt e);
-  bits = subst Bits (sym ec) (bits-tab 456 (gatheredAt e) (λ k. be (116 * (k % 4) + eAt k)));
+  bits = subst Symbols (sym ec) (over-tab 2 456 (gatheredAt e) (λ k. be (116 * (k % 4) + eAt k)));
   lends = ld;
 }

@@ -1,11 +1,12 @@
--- What is heard of a block of each channel whose protected bits were altered in at most three places: the block, good, and the number altered.
+-- What is heard of a block of each channel of whose protected bits t were altered and m are missing, 2t + m at most 6: the block, good, and t.
 use mathlib.Core.Bool.{Bool, true}
 use mathlib.Core.List.{List, _++_}
 use mathlib.Core.Path.{_≡_, refl, sym, ap, ap₂, _∙_, subst}
-use Prim.Native.Nat.{ℕ, _+_, _≤_}
+use Prim.Native.Nat.{ℕ, _+_, _*_, _≤_}
 use native.Mathlib.Omega.{arith}
 use lib.ListN.{length, take, drop}
-use Rattle.bits.specs.Bits.{Bits, add, digits, zeros}
+use lib.Seq.{length-take-le}
+use Rattle.bits.specs.Bits.{Bits, givenBits, missing, add, digits, zeros}
 use Rattle.bits.specs.laws.Sum.{add-nothing}
 use Rattle.bits.specs.laws.Tab.{is-tab}
 use Rattle.bits.specs.laws.Value.{length-digits, bits-digits, digits-none}
@@ -50,25 +51,27 @@ hearing-is : (h : Hearing) (bits : List ℕ) (count : ℕ) → h .bits ≡ bits 
 hearing-is h bits count eb eg ec =
     ap₂ (λ (x : List ℕ) (y : Bool). record { bits = x; good = y; count = h .count }) eb eg ∙ ap (λ (k : ℕ). record { bits = bits; good = true; count = k }) ec
 
-pub control-hearing : (d c : List ℕ) → length d ≡ 184 → Bits d → disagreements c (controlBlock d) ≤ 3
+pub control-hearing : (d c : List ℕ) → length d ≡ 184 → Bits d → length c ≡ 456 → 2 * disagreements c (controlBlock d) + missing c ≤ 6
     → blockHeard controlG 0 184 c ≡ record { bits = d; good = true; count = disagreements c (controlBlock d) }
-control-hearing d c ld bd few =
+control-hearing d c ld bd lc few =
     let a : List ℕ = digits (length controlG) 0 in
     let codes = control-codes d ld bd in
     let la : length a ≡ length controlG = length-digits (length controlG) 0 in
     let ba : Bits a = bits-digits (length controlG) 0 in
     let fits : length d + length controlG + 4 ≤ longest = omega (arith, ld, control-long) in
-    let fewer = subst (λ (x : List ℕ). disagreements c x ≤ 3) codes few in
+    let long : length c ≡ 2 * (length d + length controlG + 4) = omega (arith, lc, ld, control-long) in
+    let fewer = subst (λ (x : List ℕ). 2 * disagreements c x + missing c ≤ 6) codes few in
     let heard : ℕ → Hearing = λ k. blockHeard controlG 0 k c in
     hearing-is (heard 184) d (disagreements c (controlBlock d))
-    (ap (λ (k : ℕ). heard k .bits) (sym ld) ∙ restored-bits controlG a d c bd la ba fits fewer 0)
-    (ap (λ (k : ℕ). heard k .good) (sym ld) ∙ restored-good controlG a d c bd la ba fits fewer 0 refl)
-    (ap (λ (k : ℕ). heard k .count) (sym ld) ∙ restored-count controlG a d c bd la ba fits fewer 0 ∙ ap (disagreements c) (sym codes))
+    (ap (λ (k : ℕ). heard k .bits) (sym ld) ∙ restored-bits controlG a d c bd la ba fits long fewer 0)
+    (ap (λ (k : ℕ). heard k .good) (sym ld) ∙ restored-good controlG a d c bd la ba fits long fewer 0 refl)
+    (ap (λ (k : ℕ). heard k .count) (sym ld) ∙ restored-count controlG a d c bd la ba fits long fewer 0 ∙ ap (disagreements c) (sym codes))
 
-pub speech-hearing : (d c : List ℕ) → length d ≡ 260 → Bits d → disagreements (take 378 c) (take 378 (speechBlock d)) ≤ 3
-    → speechHeard c ≡ record { bits = take 182 d ++ drop 378 c; good = true; count = disagreements (take 378 c) (take 378 (speechBlock d)) }
-speech-hearing d c ld bd few =
+pub speech-hearing : (d c : List ℕ) → length d ≡ 260 → Bits d → length c ≡ 456 → 2 * disagreements (take 378 c) (take 378 (speechBlock d)) + missing (take 378 c) ≤ 6
+    → speechHeard c ≡ record { bits = take 182 d ++ givenBits (drop 378 c); good = true; count = disagreements (take 378 c) (take 378 (speechBlock d)) }
+speech-hearing d c ld bd lc few =
     let is = speech-pairs d ld bd in
-    let fewer = subst (λ (x : List ℕ). disagreements (take 378 c) x ≤ 3) is few in
-    hearing-is (speechHeard c) (take 182 d ++ drop 378 c) (disagreements (take 378 c) (take 378 (speechBlock d)))
-    (speech-bits d ld bd c fewer) (speech-good d ld bd c fewer) (speech-count d ld bd c fewer ∙ ap (disagreements (take 378 c)) (sym is))
+    let long : length (take 378 c) ≡ 378 = length-take-le 378 c (omega (arith, lc)) in
+    let fewer = subst (λ (x : List ℕ). 2 * disagreements (take 378 c) x + missing (take 378 c) ≤ 6) is few in
+    hearing-is (speechHeard c) (take 182 d ++ givenBits (drop 378 c)) (disagreements (take 378 c) (take 378 (speechBlock d)))
+    (speech-bits d ld bd c long fewer) (speech-good d ld bd c long fewer) (speech-count d ld bd c long fewer ∙ ap (disagreements (take 378 c)) (sym is))

@@ -1,13 +1,14 @@
--- A block that was coded and altered in at most three places is heard as it was, once over its length, the generator and the colour.
+-- A block that was coded, and of which t bits were altered and m are missing, 2t + m at most 6, is heard as it was, once over its length, the generator and
+-- the colour.
 use mathlib.Core.Bool.{true, false}
 use mathlib.Core.List.{List, _++_, append-assoc}
 use mathlib.Core.Path.{_≡_, refl, sym, ap, ap₂, _∙_, subst}
-use Prim.Native.Nat.{ℕ, _+_, _-_, _≤_}
+use Prim.Native.Nat.{ℕ, _+_, _-_, _*_, _≤_}
 use native.Mathlib.Omega.{arith}
 use lib.ListN.{length, take, drop, length-append}
 use lib.Seq.{take-at, drop-at}
 use borrow.Author.Tests.{eq-eqb, eqb-true}
-use Rattle.bits.specs.Bits.{Bits, add, digits, value, ones, zeros}
+use Rattle.bits.specs.Bits.{Bits, missing, add, digits, value, ones, zeros}
 use Rattle.bits.specs.laws.Cases.{not-true}
 use Rattle.bits.specs.laws.Sum.{length-ones, length-zeros, bits-ones, bits-zeros, bits-append, length-add, bits-add, add-assoc, add-twice, add-self, add-nothing, sum-nothing}
 use Rattle.bits.specs.laws.Value.{length-digits, bits-digits, digits-value}
@@ -72,7 +73,8 @@ unfoldable pub coloured : List ℕ → List ℕ → List ℕ → List ℕ
 coloured g a d = d ++ (add (parity g d) a ++ zeros 4)
 
 module _ (g a d c : List ℕ) (bd : Bits d) (la : length a ≡ length g) (ba : Bits a)
-    (short : length d + length g + 4 ≤ longest) (few : disagreements c (coded (coloured g a d)) ≤ 3) where
+    (short : length d + length g + 4 ≤ longest) (lc : length c ≡ 2 * (length d + length g + 4))
+    (few : 2 * disagreements c (coded (coloured g a d)) + missing c ≤ 6) where
   abbrev n : ℕ
   n = length d + length g + 4
 
@@ -98,7 +100,7 @@ module _ (g a d c : List ℕ) (bd : Bits d) (la : length a ≡ length g) (ba : B
   }
 
   restored : nearest c n ≡ coloured g a d
-  restored = corrected n c (coloured g a d) candidate short few .0
+  restored = corrected n c (coloured g a d) candidate lc short few .0
 
   -- the bits and the count
   pub restored-bits : (j : ℕ) → blockHeard g j (length d) c .bits ≡ d
@@ -107,7 +109,7 @@ module _ (g a d c : List ℕ) (bd : Bits d) (la : length a ≡ length g) (ba : B
 
   pub restored-count : (j : ℕ) → blockHeard g j (length d) c .count ≡ disagreements c (coded (coloured g a d))
   unfolding blockHeard
-  restored-count j = corrected n c (coloured g a d) candidate short few .1
+  restored-count j = corrected n c (coloured g a d) candidate lc short few .1
 
   -- the verdict
   verdict-of : (j : ℕ) → blockHeard g j (length d) c .good ≡ allOnes g (d ++ add checks (digits (length g) j))

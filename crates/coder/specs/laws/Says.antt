@@ -7,11 +7,11 @@ use native.Mathlib.Omega.{arith}
 use lib.Dec.{eqb, leb, lit≤}
 use lib.ListN.{length, getD, take, drop}
 use borrow.Author.Tests.{eqb-true, leb-true, eq-eqb, le-leb, lt-leb}
-use Rattle.bits.specs.Bits.{Bits, pick, both, allBits, tab, add, digits, ones}
+use Rattle.bits.specs.Bits.{Bits, NoneOver, givenBits, pick, both, noneOver, tab, add, digits, ones}
 use Rattle.bits.specs.laws.Cases.{both-first, both-second, not-true}
-use Rattle.bits.specs.laws.Check.{all-bits, bits-all}
+use Rattle.bits.specs.laws.Check.{none-over, over-none}
 use Rattle.bits.specs.laws.Parts.{length-lent}
-use Rattle.bits.specs.laws.Sum.{length-add, bits-add, bits-take}
+use Rattle.bits.specs.laws.Sum.{length-add, bits-add, bits-take, bits-drop}
 use Rattle.bits.specs.laws.Tab.{bits-tab}
 use Rattle.bits.specs.laws.Value.{length-digits, bits-digits}
 use Rattle.parity.specs.Division.{remainder, speechG, controlG, accessG, schG}
@@ -35,14 +35,14 @@ use Rattle.coder.specs.Received.{Hearing, allOnes, speechDAt, blockHeard
 use Rattle.coder.specs.Says.{Refusing, Sends, SpeechSends, ControlSends, SacchSends, AccessSends, SchSends, Decodes, blockWord, BlockDecodes, speechD, speechWord, SpeechDecodes, Accepts, FindsBad, Receives, SpeechReceives, ControlReceives, SacchReceives, AccessReceives, SchReceives, Views}
 use Rattle.coder.specs.laws.Blocks.{control-long, access-long, sch-long}
 use Rattle.coder.specs.laws.Entries.{done-held, done-given, done-identity, sends, view-fewest}
-use Rattle.coder.specs.laws.Heard.{bits-drop, hears-good, hears-bad}
+use Rattle.coder.specs.laws.Heard.{hears-good, hears-bad}
 use Rattle.coder.specs.laws.SpeechHeard.{bits-d}
 use Rattle.coder.specs.laws.Restored.{ones-good, good-ones}
 
 -- ---- the first that applies
-module _ (n m i : ℕ) (d c : List ℕ) where
+module _ (most n m i : ℕ) (d c : List ℕ) where
   abbrev told : Told
-  told = judged (lengths d n c m) (allBits d) (leb i 63)
+  told = judged (lengths d n c m) (noneOver most d) (leb i 63)
 
   is-one : ((length d ≡ n) × (length c ≡ m) → ⊥) → told ≡ Refused Length
   unfolding judged
@@ -51,15 +51,15 @@ module _ (n m i : ℕ) (d c : List ℕ) where
       h (eqb-true (length d) n (both-first (eqb (length d) n) (eqb (length c) m) e), eqb-true (length c) m (both-second (eqb (length d) n) (eqb (length c) m) e)) in
       rw (not-true (lengths d n c m) both-right) refl
 
-  is-two : length d ≡ n → length c ≡ m → (Bits d → ⊥) → told ≡ Refused NotBits
+  is-two : length d ≡ n → length c ≡ m → (NoneOver most d → ⊥) → told ≡ Refused NotBits
   unfolding judged
-  is-two reads lends h = rw (eq-eqb (length d) n reads, eq-eqb (length c) m lends, not-true (allBits d) (λ (e : allBits d ≡ true). h (all-bits d e))) refl
+  is-two reads lends h = rw (eq-eqb (length d) n reads, eq-eqb (length c) m lends, not-true (noneOver most d) (λ (e : noneOver most d ≡ true). h (none-over most d e))) refl
 
-  is-three : Given n m d c → 63 < i → told ≡ Refused Identity
+  is-three : Given most n m d c → 63 < i → told ≡ Refused Identity
   unfolding judged
-  is-three g h = rw (eq-eqb (length d) n (g .reads), eq-eqb (length c) m (g .lends), bits-all d (g .bits), lt-leb i 63 h) refl
+  is-three g h = rw (eq-eqb (length d) n (g .reads), eq-eqb (length c) m (g .lends), over-none most d (g .bits), lt-leb i 63 h) refl
 
-  refusing : {A : Type 0} (of : A → Returned) (a : Answer A) → ((x : Refusal) → told ≡ Refused x → Refuses of a (numberOf x) c) → Refusing of a n m i d c
+  refusing : {A : Type 0} (of : A → Returned) (a : Answer A) → ((x : Refusal) → told ≡ Refused x → Refuses of a (numberOf x) c) → Refusing of a most n m i d c
   refusing of a says = record {
     one = λ h. says Length (is-one h);
     two = λ reads lends h. says NotBits (is-two reads lends h);
@@ -74,11 +74,11 @@ told-done (Refused x) e = let f : Some (numberOf x) ≡ None = ap (λ (r : Retur
 pub sends-as : (n m i : ℕ) (d sent c : List ℕ) → Sends (entry n m i d sent c) n m i d sent c
 unfolding entry tells sentOr
 sends-as n m i d sent c =
-    let t : Told = told n m i d c in
+    let t : Told = told 1 n m i d c in
     record {
-      refused = refusing n m i d c ofTold (entry n m i d sent c) (λ x e. (ap ofTold e, ap (λ (y : Told). sentOr y sent c) e));
+      refused = refusing 1 n m i d c ofTold (entry n m i d sent c) (λ x e. (ap ofTold e, ap (λ (y : Told). sentOr y sent c) e));
       done = λ g h. let e = sends n m i d c h g sent in (ap (λ (a : Answer Told). ofTold (a .result)) e, ap (λ (a : Answer Told). a .left) e);
-      only = λ e. let f : t ≡ Done = told-done t e in (done-given d c n m i t refl f, done-identity d c n m i t refl f);
+      only = λ e. let f : t ≡ Done = told-done t e in (done-given 1 d c n m i t refl f, done-identity 1 d c n m i t refl f);
     }
 
 pub speech-sends : SpeechSends
@@ -128,7 +128,7 @@ block-heard g i n pairs c size short =
       bad = λ h. not-true (allOnes g (take n u ++ add p b)) (λ (e : allOnes g (take n u ++ add p b) ≡ true). h (good-ones g (take n u) (add p b) lq bd bq e));
     }
 
-pub speech-heard : (c : List ℕ) → HeardOf (speechHeard c) (take 378 c) 189 speechG speechWord (λ u. speechD u ++ drop 378 c)
+pub speech-heard : (c : List ℕ) → HeardOf (speechHeard c) (take 378 c) 189 speechG speechWord (λ u. speechD u ++ givenBits (drop 378 c))
 unfolding speechHeard
 speech-heard c =
     let u : List ℕ = nearest (take 378 c) 189 in
@@ -168,11 +168,11 @@ pub control-decodes : (c : List ℕ) → ByVerdict (blockHeard controlG 0 184 c)
 control-decodes c = decodes (blockHeard controlG 0 184 c) c 228 controlG (blockWord controlG 0 184) (take 184) (block-heard controlG 0 184 228 c (omega (arith, control-long)) (lit≤ tt))
 
 pub speech-decodes : (c : List ℕ) → ByVerdict (speechHeard c) (SpeechDecodes c)
-speech-decodes c = decodes (speechHeard c) (take 378 c) 189 speechG speechWord (λ u. speechD u ++ drop 378 c) (speech-heard c)
+speech-decodes c = decodes (speechHeard c) (take 378 c) 189 speechG speechWord (λ u. speechD u ++ givenBits (drop 378 c)) (speech-heard c)
 
 -- ---- receiving
 module _ (n m i : ℕ) (c d : List ℕ) (h : Hearing) where
-  refused-as : (x : Refusal) → told n m i c d ≡ Refused x → Refuses ofHeard (reception n m i c h d) (numberOf x) d
+  refused-as : (x : Refusal) → told 2 n m i c d ≡ Refused x → Refuses ofHeard (reception n m i c h d) (numberOf x) d
   unfolding reception judgedHearing hears heardOr
   refused-as x e = (ap (λ (y : Told). ofHeard (judgedHearing y h)) e, ap (λ (y : Told). heardOr (judgedHearing y h) (h .bits) d) e)
 
@@ -182,27 +182,27 @@ module _ (n m i : ℕ) (c d : List ℕ) (h : Hearing) where
   counted Done k e = refl
   counted (Refused x) k e = let z : _≡_ {A = ℕ} 0 1 = cc in let w : ⊥ = omega arith in absurd w
 
-  count-only : (k : ℕ) → ofHeard (reception n m i c h d .result) .count ≡ Some k → told n m i c d ≡ Done
+  count-only : (k : ℕ) → ofHeard (reception n m i c h d .result) .count ≡ Some k → told 2 n m i c d ≡ Done
   unfolding reception hears
-  count-only k e = counted (told n m i c d) k e
+  count-only k e = counted (told 2 n m i c d) k e
 
   module _ (p : List ℕ) (pairs : ℕ) (g : List ℕ) (word handed : List ℕ → List ℕ) (x : HeardOf h p pairs g word handed) where
     pub receives-as : Receives (reception n m i c h d) n m i c d (Decodes p pairs g word handed)
     receives-as =
         let a : Answer Heard = reception n m i c h d in
-        let t : Told = told n m i c d in
+        let t : Told = told 2 n m i c d in
         record {
-          refused = refusing n m i c d ofHeard a refused-as;
+          refused = refusing 2 n m i c d ofHeard a refused-as;
           heard = λ gi l.
               decodes h p pairs g word handed x (Accepts a) (λ k. FindsBad a k d)
               (λ good. let e = hears-good n m i c d l gi h (h .count) refl (h .bits) good refl in (ap (λ (y : Answer Heard). ofHeard (y .result)) e, ap (λ (y : Answer Heard). y .left) e))
               (λ bad. let e = hears-bad n m i c d l gi h (h .count) refl bad in (ap (λ (y : Answer Heard). ofHeard (y .result)) e, ap (λ (y : Answer Heard). y .left) e));
-          only = λ k e. let f = count-only k e in (done-given c d n m i t refl f, done-identity c d n m i t refl f);
+          only = λ k e. let f = count-only k e in (done-given 2 c d n m i t refl f, done-identity 2 c d n m i t refl f);
         }
 
 pub speech-receives : SpeechReceives
 unfolding speechReceived
-speech-receives c d = receives-as 456 260 0 c d (speechHeard c) (take 378 c) 189 speechG speechWord (λ u. speechD u ++ drop 378 c) (speech-heard c)
+speech-receives c d = receives-as 456 260 0 c d (speechHeard c) (take 378 c) 189 speechG speechWord (λ u. speechD u ++ givenBits (drop 378 c)) (speech-heard c)
 
 pub control-receives : ControlReceives
 unfolding controlReceived
@@ -232,14 +232,14 @@ views r =
       one = λ h.
           let e : viewLength r ≡ false = not-true (viewLength r) (λ (e : viewLength r ≡ true).
           h (eqb-true (length r % 2) 0 (both-first (eqb (length r % 2) 0) (leb (length r) 456) e), leb-true (length r) 456 (both-second (eqb (length r % 2) 0) (leb (length r) 456) e))) in
-          (ap (λ (l : Bool). ofTold (shown l (allBits r) .result)) e, ap (λ (l : Bool). shown l (allBits r) .left) e);
-      two = λ even short h. rw (long even short, not-true (allBits r) (λ (e : allBits r ≡ true). h (all-bits r e))) (refl, refl);
-      done = λ even short bits. rw (long even short, bits-all r bits) refl;
+          (ap (λ (l : Bool). ofTold (shown l (noneOver 2 r) .result)) e, ap (λ (l : Bool). shown l (noneOver 2 r) .left) e);
+      two = λ even short h. rw (long even short, not-true (noneOver 2 r) (λ (e : noneOver 2 r ≡ true). h (none-over 2 r e))) (refl, refl);
+      done = λ even short bits. rw (long even short, over-none 2 r bits) refl;
       only = λ e.
-          let held = done-held (viewLength r) (allBits r) true (told-done (judged (viewLength r) (allBits r) true) e) in (
+          let held = done-held (viewLength r) (noneOver 2 r) true (told-done (judged (viewLength r) (noneOver 2 r) true) e) in (
             eqb-true (length r % 2) 0 (both-first (eqb (length r % 2) 0) (leb (length r) 456) (held .lengths)),
             leb-true (length r) 456 (both-second (eqb (length r % 2) 0) (leb (length r) 456) (held .lengths)),
-            all-bits r (held .bits),
+            none-over 2 r (held .bits),
           );
-      fewest = λ even short bits s h. view-fewest r (trellisViewed r .left) (record { result = rw (long even short, bits-all r bits) refl; left = refl }) s h;
+      fewest = λ even short bits s h. view-fewest r (trellisViewed r .left) (record { result = rw (long even short, over-none 2 r bits) refl; left = refl }) s h;
     }

@@ -8,9 +8,9 @@ use lib.Bits.{bitXor, xor-zero-r}
 use lib.Dec.{eqb, lit<, lit≤}
 use lib.ListN.{length, getD, take, drop, length-append, length-drop}
 use lib.Seq.{length-take-le, take-all, take-at}
-use Rattle.bits.specs.Bits.{Bits, pick, tab, digits, value, ones}
+use Rattle.bits.specs.Bits.{Bits, givenBits, pick, tab, digits, value, ones}
 use Rattle.bits.specs.laws.Parts.{put, put-two}
-use Rattle.bits.specs.laws.Sum.{bits-append, bits-take}
+use Rattle.bits.specs.laws.Sum.{bits-append, bits-take, bits-drop}
 use Rattle.bits.specs.laws.Tab.{length-tab, bits-tab, even-place, odd-place}
 use Rattle.bits.specs.laws.Value.{length-digits}
 use Rattle.parity.specs.Asked.{Generates}
@@ -19,7 +19,7 @@ use Rattle.parity.specs.laws.Generators.{speech-number}
 use Rattle.trellis.specs.Nearest.{Candidate, nearest, nearestCount}
 use Rattle.trellis.specs.laws.Nearest.{nearest-is}
 use Rattle.coder.specs.Received.{allOnes, speechDAt, speechHeard}
-use Rattle.coder.specs.laws.Heard.{bits-drop, value-ones}
+use Rattle.coder.specs.laws.Heard.{value-ones}
 
 -- ---- d by twos: d(2k) = u(k) and d(2k+1) = u(184-k)
 pub d-even : (u : List ℕ) (k : ℕ) → speechDAt u (2 * k) ≡ getD u k 0
@@ -63,13 +63,13 @@ module _ (d u w : List ℕ) (bd : Bits d) (bu : Bits u) (ld : length d ≡ 182) 
       (sym seven)
 
 -- ---- 182 bits and 78
-pub laid-speech : (f c e x y : List ℕ) → length f ≡ 182 → length c ≡ 456 → length e ≡ 260 → x ≡ f → y ≡ take 78 (drop 378 c) → put 182 78 y (put 0 182 x e) ≡ f ++ drop 378 c
+pub laid-speech : (f c e x y : List ℕ) → length f ≡ 182 → length c ≡ 456 → length e ≡ 260 → x ≡ f → y ≡ givenBits (take 78 (drop 378 c)) → put 182 78 y (put 0 182 x e) ≡ f ++ givenBits (drop 378 c)
 laid-speech f c e x y lf lc le ex ey =
     let all : take 78 (drop 378 c) ≡ drop 378 c = take-all 78 (drop 378 c) (simp length-drop (omega (arith, lc))) in
-    put-two e x y 182 78 182 (ap length ex ∙ lf) refl le ∙ ap₂ (λ (a b : List ℕ). a ++ b) ex (ey ∙ all)
+    put-two e x y 182 78 182 (ap length ex ∙ lf) refl le ∙ ap₂ (λ (a b : List ℕ). a ++ b) ex (ey ∙ ap givenBits all)
 
 -- ---- the nearest block, which stands at the front of x; its protected bits f; the verdict
-module _ (c rest x v f : List ℕ) (bc : Bits c) (lc : length c ≡ 456) (ex : x ≡ nearest (take 378 c) 189 ++ rest) (cut : v ≡ take 189 x) (ef : f ≡ tab 182 (speechDAt v)) where
+module _ (c rest x v f : List ℕ) (lc : length c ≡ 456) (ex : x ≡ nearest (take 378 c) 189 ++ rest) (cut : v ≡ take 189 x) (ef : f ≡ tab 182 (speechDAt v)) where
   candidate : Candidate 189 (nearest (take 378 c) 189)
   candidate = nearest-is (take 378 c) 189 (lit≤ tt) (lit≤ tt) .candidate
 
@@ -99,6 +99,6 @@ module _ (c rest x v f : List ℕ) (bc : Bits c) (lc : length c ≡ 456) (ex : x
   unfolding speechHeard
   count-is k e = e
 
-  pub bits-are : (after : List ℕ) → after ≡ f ++ drop 378 c → after ≡ speechHeard c .bits
+  pub bits-are : (after : List ℕ) → after ≡ f ++ givenBits (drop 378 c) → after ≡ speechHeard c .bits
   unfolding speechHeard
-  bits-are after e = e ∙ ap (λ (x : List ℕ). x ++ drop 378 c) firsts
+  bits-are after e = e ∙ ap (λ (x : List ℕ). x ++ givenBits (drop 378 c)) firsts

@@ -1,4 +1,4 @@
--- A speech block whose 378 protected bits were altered in at most three places is heard as it was.
+-- A speech block of whose 378 protected bits t were altered and m are missing, 2t + m at most 6, is heard as it was.
 use mathlib.Core.Bool.{true}
 use mathlib.Core.List.{List, _++_}
 use mathlib.Core.Logic.{⊎-elim}
@@ -9,7 +9,7 @@ use lib.Dec.{lit≤}
 use lib.ListN.{length, getD, take, drop, length-drop, getD-replicate}
 use lib.Seq.{length-take-le, take-take, getD-take, getD-drop, ext-getD}
 use borrow.Author.Tests.{eq-eqb, ne-eqb}
-use Rattle.bits.specs.Bits.{Bits, tab, value, ones, zeros}
+use Rattle.bits.specs.Bits.{Bits, givenBits, missing, tab, value, ones, zeros}
 use Rattle.bits.specs.laws.Cases.{lt-or-le}
 use Rattle.bits.specs.laws.Parts.{length-lent}
 use Rattle.bits.specs.laws.Sum.{bits-take, length-zeros}
@@ -62,17 +62,17 @@ module _ (d : List ℕ) (ld : length d ≡ 260) (bd : Bits d) where
   candidate = record { bits = bits-u d bd ld; long = length-u d bd ld; ends = ends }
 
   -- ---- what is heard of it
-  module _ (c : List ℕ) (few : disagreements (take 378 c) (coded (speechU d)) ≤ 3) where
+  module _ (c : List ℕ) (lc : length (take 378 c) ≡ 378) (few : 2 * disagreements (take 378 c) (coded (speechU d)) + missing (take 378 c) ≤ 6) where
     restored : nearest (take 378 c) 189 ≡ speechU d
-    restored = corrected 189 (take 378 c) (speechU d) candidate (lit≤ tt) few .0
+    restored = corrected 189 (take 378 c) (speechU d) candidate lc (lit≤ tt) few .0
 
     pub speech-count : speechHeard c .count ≡ disagreements (take 378 c) (coded (speechU d))
     unfolding speechHeard
-    speech-count = corrected 189 (take 378 c) (speechU d) candidate (lit≤ tt) few .1
+    speech-count = corrected 189 (take 378 c) (speechU d) candidate lc (lit≤ tt) few .1
 
-    pub speech-bits : speechHeard c .bits ≡ take 182 d ++ drop 378 c
+    pub speech-bits : speechHeard c .bits ≡ take 182 d ++ givenBits (drop 378 c)
     unfolding speechHeard
-    speech-bits = ap (λ (u : List ℕ). tab 182 (speechDAt u) ++ drop 378 c) restored ∙ ap (λ (x : List ℕ). x ++ drop 378 c) first-bits
+    speech-bits = ap (λ (u : List ℕ). tab 182 (speechDAt u) ++ givenBits (drop 378 c)) restored ∙ ap (λ (x : List ℕ). x ++ givenBits (drop 378 c)) first-bits
 
     pub speech-good : speechHeard c .good ≡ true
     unfolding speechHeard allOnes speechP

@@ -6,7 +6,7 @@ use Prim.Native.Nat.{ℕ, _+_, _*_, _/_, _%_, _≤_}
 use native.Mathlib.Omega.{arith}
 use lib.Dec.{leb}
 use lib.ListN.{length}
-use Rattle.bits.specs.Bits.{allBits}
+use Rattle.bits.specs.Bits.{noneOver}
 use Rattle.parity.specs.Division.{accessG, controlG}
 use Rattle.trellis.specs.laws.Nearest.{count-fits}
 use Rattle.answers.specs.Answers.{Answer, Meets, orNone, ofTold, ofHeard, hears}
@@ -66,8 +66,8 @@ hearing-fits (told.Refused r) h l = omega arith
 module _ (identity : ℕ) (c d : List ℕ) where
   pub access-count-fits : orNone (ofHeard (accessReceived identity c d .result) .count) ≤ 65535
   unfolding accessReceived reception hears blockHeard
-  access-count-fits = hearing-fits (judged (lengths c 36 d 8) (allBits c) (leb identity 63)) (blockHeard accessG identity 8 c) (count-fits c (8 + length accessG + 4))
+  access-count-fits = hearing-fits (judged (lengths c 36 d 8) (noneOver 2 c) (leb identity 63)) (blockHeard accessG identity 8 c) (count-fits c (8 + length accessG + 4))
 
   pub control-count-fits : orNone (ofHeard (controlReceived c d .result) .count) ≤ 65535
   unfolding controlReceived reception hears blockHeard
-  control-count-fits = hearing-fits (judged (lengths c 456 d 184) (allBits c) (leb 0 63)) (blockHeard controlG 0 184 c) (count-fits c (184 + length controlG + 4))
+  control-count-fits = hearing-fits (judged (lengths c 456 d 184) (noneOver 2 c) (leb 0 63)) (blockHeard controlG 0 184 c) (count-fits c (184 + length controlG + 4))

@@ -10,21 +10,21 @@ returns c =
     let s = c .before .before .before .before .before .before .before .before .before .args in
     let kind = c .before .before .before .before .before .before .vote in
     let heard = c .before .before .receive-speech in
-    by-vote (s .n .0) (s .flags) (s .c .now) (s .d .now) (kind .result) Speech (kind .ensures) (c .before .before .before .before .enum-told .given .1) (heard .result) (heard .last .1 .1 .0) (heard .ensures)
+    by-vote (s .n .0) (s .ones) (s .zeros) (s .c .now) (s .d .now) (kind .result) Speech (kind .ensures) (c .before .before .before .before .enum-told .given .1) (heard .result) (heard .last .1 .1 .0) (heard .ensures)
 
 returns-2 : tie.Need-returns-2
 returns-2 c =
     let s = c .before .before .before .before .before .before .before .before .before .args in
     let kind = c .before .before .before .before .before .before .vote in
     let heard = c .before .before .receive-facch in
-    by-vote (s .n .0) (s .flags) (s .c .now) (s .d .now) (kind .result) Facch (kind .ensures) (c .before .before .before .before .enum-told2 .given .1) (heard .result) (heard .last .1 .1 .0) (heard .ensures)
+    by-vote (s .n .0) (s .ones) (s .zeros) (s .c .now) (s .d .now) (kind .result) Facch (kind .ensures) (c .before .before .before .before .enum-told2 .given .1) (heard .result) (heard .last .1 .1 .0) (heard .ensures)
 
 returns-3 : tie.Need-returns-3
 returns-3 c =
     let s = c .before .before .before .before .before .before .before .before .before .args in
     let kind = c .before .before .before .before .before .before .vote in
     let heard = c .before .before .receive-tied in
-    by-vote (s .n .0) (s .flags) (s .c .now) (s .d .now) (kind .result) Neither (kind .ensures) (c .before .before .before .before .enum-told3 .given .1) (heard .result) (heard .last .1 .1 .0) (heard .ensures)
+    by-vote (s .n .0) (s .ones) (s .zeros) (s .c .now) (s .d .now) (kind .result) Neither (kind .ensures) (c .before .before .before .before .enum-told3 .given .1) (heard .result) (heard .last .1 .1 .0) (heard .ensures)
 
 pub receive-spec : {M : Type 1} → statement M
 receive-spec =

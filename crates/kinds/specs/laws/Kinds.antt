@@ -1,4 +1,4 @@
--- The vote, what coder's entries say of a block, and the rule for four ones.
+-- The vote, what coder's entries say of a block, and the rule for as many ones as zeros.
 use mathlib.Core.Bool.{Bool, true, false}
 use mathlib.Core.List.{List, _++_}
 use mathlib.Core.Path.{_≡_, refl, sym, ap, _∙_, subst}
@@ -9,7 +9,7 @@ use lib.Dec.{ltb, lit≤}
 use lib.ListN.{length, take, drop, take-append-drop}
 use lib.Seq.{length-take-le}
 use borrow.Author.Tests.{lt-ltb, le-ltb}
-use Rattle.bits.specs.Bits.{Bits, pick}
+use Rattle.bits.specs.Bits.{Symbols, pick}
 use Rattle.answers.specs.Answers.{Answer, Meets}
 use Rattle.answers.specs.declared.Heard.{Heard}
 use Rattle.answers.specs.declared.Heard.the-variants as heard
@@ -23,22 +23,25 @@ use Rattle.chart.specs.declared.Taken.{Taken}
 use Rattle.chart.specs.declared.Taken.the-variants as taken
 use Rattle.kinds.specs.Kinds.{vote, goodOrBad, speechOf, facchOf, tied, byKind}
 
--- ---- the vote, by how many of the flags are 1
-module _ (flags : ℕ) where
-  abbrev counted : ℕ
-  counted = count.ones flags
+-- ---- the vote, by how many of the flags are 1 and how many are 0
+module _ (ones zeros : ℕ) where
+  abbrev for-facch : ℕ
+  for-facch = count.ones ones
 
-  pub vote-four : counted ≡ 4 → vote flags ≡ Neither
-  unfolding vote
-  vote-four h = rw h refl
+  abbrev for-speech : ℕ
+  for-speech = count.ones zeros
 
-  pub vote-few : counted < 4 → vote flags ≡ Speech
+  pub vote-even : for-facch ≡ for-speech → vote ones zeros ≡ Neither
   unfolding vote
-  vote-few h = simp (lt-ltb counted 4 h)
+  vote-even h = simp (le-ltb for-speech for-facch (omega (arith, h)), le-ltb for-facch for-speech (omega (arith, h)))
 
-  pub vote-many : 4 < counted → vote flags ≡ Facch
+  pub vote-few : for-facch < for-speech → vote ones zeros ≡ Speech
   unfolding vote
-  vote-many h = simp (le-ltb counted 4 (omega (arith, h)), lt-ltb 4 counted h)
+  vote-few h = simp (le-ltb for-speech for-facch (omega (arith, h)), lt-ltb for-facch for-speech h)
+
+  pub vote-many : for-speech < for-facch → vote ones zeros ≡ Facch
+  unfolding vote
+  vote-many h = simp (lt-ltb for-speech for-facch h)
 
 -- ---- what coder's entry says, as take says it
 abbrev goodAs : Bool → ℕ → ℕ → Taken
@@ -50,7 +53,7 @@ asTaken facch n (heard.Bad k) = taken.Bad (record { 0 = n }) k
 asTaken facch n (heard.Refused r) = taken.Refused r
 
 -- the way of an entry that is given what it should be
-module _ (n m : ℕ) (c d : List ℕ) (g : Given n m c d) (h : Hearing) (r : Heard) (after : List ℕ) (said : Meets (reception n m 0 c h d) r after) where
+module _ (n m : ℕ) (c d : List ℕ) (g : Given 2 n m c d) (h : Hearing) (r : Heard) (after : List ℕ) (said : Meets (reception n m 0 c h d) r after) where
   heard-as : (facch : Bool) (block : ℕ) (b : Bool) → h .good ≡ b
       → (asTaken facch block r ≡ pick b (goodAs facch block (h .count)) (taken.Bad (record { 0 = block }) (h .count))) × (after ≡ pick b (h .bits) d)
   unfolding asTaken
@@ -71,8 +74,8 @@ unfolding goodOrBad
 picked-left true t u x y = refl
 picked-left false t u x y = refl
 
-module _ (c d : List ℕ) (n : ℕ) (lc : length c ≡ 456) (bc : Bits c) (ld : length d ≡ 260) (r : Heard) (after : List ℕ) where
-  given : {m : ℕ} (out : List ℕ) → length out ≡ m → Given 456 m c out
+module _ (c d : List ℕ) (n : ℕ) (lc : length c ≡ 456) (bc : Symbols c) (ld : length d ≡ 260) (r : Heard) (after : List ℕ) where
+  given : {m : ℕ} (out : List ℕ) → length out ≡ m → Given 2 456 m c out
   given out l = record { reads = lc; bits = bc; lends = l }
 
   pub speech-brought : Meets (speechReceived c d) r after
@@ -115,7 +118,7 @@ pub speech-good : (n : ℕ) (h : Hearing) (d : List ℕ) → h .good ≡ true �
 unfolding speechOf goodOrBad
 speech-good n h d e = rw e refl
 
--- ---- 02, M-101: the rule for four ones, by the two verdicts
+-- ---- 02, M-101: the rule for as many ones as zeros, by the two verdicts
 module _ (n : ℕ) (control speech : Hearing) (d : List ℕ) where
   pub rule-facch : control .good ≡ true → tied n control speech d ≡ facchOf n control d
   unfolding tied
@@ -200,6 +203,6 @@ module _ (n : ℕ) (c d : List ℕ) where
           (record { result = refl; left = speech-left e })
 
 -- ---- as the kind that the flags say
-pub by-vote : (n flags : ℕ) (c d : List ℕ) (k k' : Kind) → k ≡ vote flags → k ≡ k' → (r : Taken) (after : List ℕ)
-    → Meets (byKind k' n c d) r after → Meets (byKind (vote flags) n c d) r after
-by-vote n flags c d k k' ek e r after = subst (λ (x : Kind). Meets (byKind x n c d) r after) (sym e ∙ ek)
+pub by-vote : (n ones zeros : ℕ) (c d : List ℕ) (k k' : Kind) → k ≡ vote ones zeros → k ≡ k' → (r : Taken) (after : List ℕ)
+    → Meets (byKind k' n c d) r after → Meets (byKind (vote ones zeros) n c d) r after
+by-vote n ones zeros c d k k' ek e r after = subst (λ (x : Kind). Meets (byKind x n c d) r after) (sym e ∙ ek)

@@ -1,8 +1,8 @@
--- The promise of demand 3 is kept; and the locality that carries it, by itself.
-use mathlib.Core.Bool.{Bool, true, false}
+-- What a block bears it bears, and so the promise of demand 3 is kept; and the locality that carries it, by itself.
+use mathlib.Core.Bool.{Bool, true, false, not}
 use mathlib.Core.List.{List, [], _++_}
 use mathlib.Core.Logic.{⊎-elim}
-use mathlib.Core.Path.{_≡_, refl, sym, ap, ap₂, _∙_, subst}
+use mathlib.Core.Path.{_≡_, refl, sym, ap, ap₂, _∙_, subst, subst₂}
 use Prim.Native.Nat.{ℕ, zero, suc, _+_, _*_, _/_, _%_, _≤_, _<_}
 use native.Mathlib.Omega.{arith}
 use lib.Dec.{ltb, eqb}
@@ -10,23 +10,25 @@ use lib.ListN.{length, getD, take, drop}
 use borrow.Author.Tests.{eqb-true}
 use lib.Count.{ones}
 use Rattle.answers.specs.Answers.{Answer, Meets}
-use Rattle.bits.specs.Bits.{Bits, pick, tab, value, total}
-use Rattle.bits.specs.laws.Cases.{lt-or-le, false-true}
-use Rattle.bits.specs.laws.Tab.{at-tab, length-tab, is-tab, tab-same, bits-tab}
+use Rattle.bits.specs.Bits.{Symbols, givenBits, isMissing, lost, missing, pick, tab, total, differ}
+use Rattle.bits.specs.laws.Cases.{lt-or-le, false-true, each-symbol}
+use Rattle.bits.specs.laws.Missing.{given-same, given-drop, missing-take}
+use Rattle.bits.specs.laws.Tab.{at-tab, length-tab, is-tab, tab-same, over-tab}
 use Rattle.bits.specs.laws.Total.{total-same, total-add}
 use Rattle.burst.specs.Numbers.{firstBurst}
 use Rattle.places.specs.Places.{eAt, hl, hu}
-use Rattle.burst.specs.laws.Held.{ones-of-flags}
+use Rattle.burst.specs.Held.{saying, sayers}
+use Rattle.burst.specs.laws.Held.{sayers-ones}
 use Rattle.places.specs.laws.Places.{every-bit}
 use Rattle.coder.specs.Blocks.{speechBlock, controlBlock}
 use Rattle.coder.specs.Received.{Hearing, blockHeard, speechHeard}
 use Rattle.coder.specs.laws.Blocks.{control-size, speech-size}
 use Rattle.coder.specs.laws.Hearings.{control-hearing, speech-hearing}
 use Rattle.parity.specs.Division.{controlG}
-use Rattle.trellis.specs.Nearest.{differ, disagreements}
+use Rattle.trellis.specs.Nearest.{disagreements}
 use Rattle.chart.specs.Answers.{ofTaken}
 use Rattle.kinds.specs.Kinds.{vote, byKind, speechOf, facchOf, goodOrBad}
-use Rattle.kinds.specs.laws.Kinds.{vote-few, vote-many, vote-four}
+use Rattle.kinds.specs.laws.Kinds.{vote-few, vote-many, vote-even}
 use Rattle.kinds.specs.laws.Says.{block-says}
 use Rattle.stream.specs.Sending.{isFacch, isBlock, blockOf, flagOf, freshSender}
 use Rattle.chart.specs.declared.Taken.{Taken}
@@ -34,7 +36,7 @@ use Rattle.chart.specs.declared.Taken.the-variants.{Speech, Facch}
 use Rattle.chart.specs.declared.Kind.{Kind}
 use Rattle.chart.specs.declared.Kind.the-variants as kind
 use Rattle.stream.specs.declared.receiver.Received.{Received}
-use Rattle.promise.specs.Promise.{Valid, Lesson, made, blockBits, blockFlags, protected, bitsAltered, flagsAltered, kindOf, bitsOut, takenAt, Brings, Answers, answerFor, StreamPromise, BurstsMade, IdleHalves, Locality, StreamNearest, NeverAThird}
+use Rattle.promise.specs.Promise.{Valid, Lesson, made, blockBits, blockFlags, protected, bitsAltered, bitsMissing, flagsAltered, flagsMissing, kindOf, bitsOut, takenAt, Brings, Answers, flagsThat, answerFor, flagsSaying, StreamBears, StreamPromise, BurstsMade, IdleHalves, Locality, StreamNearest, NeverAThird}
 use Rattle.promise.specs.laws.Sent.{fresh-able, sent-bit, sent-flag, all-done, first-idle, last-idle}
 use Rattle.promise.specs.laws.Taken.{flag-in, brings-block, brings-nothing}
 
@@ -42,16 +44,14 @@ pub locality : Locality
 locality M few rx out here = (brings-block M few rx out here, brings-nothing M few rx out here)
 
 pub stream-nearest : StreamNearest
-unfolding answerFor blockFlags firstBurst
+unfolding answerFor
 stream-nearest M few rx out here n h =
     let met = brings-block M few rx out here n h in
-    let flag : ℕ → ℕ = λ (i : ℕ). getD rx (116 * (4 * n + i) + pick (ltb i 4) hu hl) 0 in
-    let counted : ones (value (tab 8 flag)) ≡ total 8 (λ i. getD (tab 8 flag) i 0) =
-    ones-of-flags flag (λ i. here .bits (116 * (4 * n + i) + pick (ltb i 4) hu hl)) 8 ∙ total-same 8 flag (λ i. getD (tab 8 flag) i 0) (λ i l. sym (at-tab 8 flag i l)) in
-    block-says (value (tab 8 flag)) n (blockBits rx n) (out (4 * n + 7))
+    let flag : ℕ → ℕ = λ (i : ℕ). getD (blockFlags rx n) i 0 in
+    block-says (flagsThat 1 rx n) (flagsThat 0 rx n) n (blockBits rx n) (out (4 * n + 7))
     (λ v left. (ofTaken (takenAt rx out (4 * n + 7) .result .told) ≡ v) × (takenAt rx out (4 * n + 7) .left ≡ left))
     (λ t left e. (ap ofTaken (met .result ∙ ap (λ (a : Answer Taken). a .result) e), met .left ∙ ap (λ (a : Answer Taken). a .left) e))
-    (total 8 (λ i. getD (tab 8 flag) i 0)) counted
+    (flagsSaying 1 rx n) (flagsSaying 0 rx n) (sayers-ones 1 flag) (sayers-ones 0 flag)
 
 pub bursts-made : BurstsMade
 unfolding made
@@ -86,7 +86,8 @@ module _ (rx rx' : List ℕ) (B n : ℕ) (same : (i : ℕ) → (i / 116 ≡ B �
 
   heard-stands : (out : List ℕ) → answerFor rx n out ≡ answerFor rx' n out
   unfolding answerFor
-  heard-stands out = ap₂ (λ (f c : List ℕ). byKind (vote (value f)) n c out) flags-stand bits-stand
+  heard-stands out =
+      ap₂ (λ (f c : List ℕ). byKind (vote (sayers 1 (λ i. getD f i 0)) (sayers 0 (λ i. getD f i 0))) n c out) flags-stand bits-stand
 
 pub never-a-third : NeverAThird
 never-a-third M few rx rx' out here here' B same n h first last =
@@ -95,41 +96,52 @@ never-a-third M few rx rx' out here here' B same n h first last =
     let is = heard-stands rx rx' B n same first last (out (4 * n + 7)) in
     (one .result ∙ ap (λ (x : Answer Taken). x .result) is ∙ sym (two .result), one .left ∙ ap (λ (x : Answer Taken). x .left) is ∙ sym (two .left))
 
--- ---- how many flags are 1, by how many are altered
-differ-zero : (r : ℕ) → r ≤ 1 → differ 0 r ≡ r
-unfolding differ
-differ-zero zero h = refl
-differ-zero (suc zero) h = refl
-differ-zero (suc (suc r)) h = let z : ⊥ = omega arith in absurd z
+-- ---- how many flags are 1 and how many are 0, by how many are altered and how many are missing
+-- a flag that was p says p, or is altered, or is missing; and where it is altered it says the other
+one-of-three : (b : Bool) (r : ℕ) → r ≤ 2 → saying (flagOf b) r + differ (flagOf b) r + lost r ≡ 1
+unfolding saying differ isMissing
+one-of-three true = each-symbol (λ r. saying 1 r + differ 1 r + lost r ≡ 1) refl refl refl
+one-of-three false = each-symbol (λ r. saying 0 r + differ 0 r + lost r ≡ 1) refl refl refl
 
-differ-one : (r : ℕ) → r ≤ 1 → r + differ 1 r ≡ 1
-unfolding differ
-differ-one zero h = refl
-differ-one (suc zero) h = refl
-differ-one (suc (suc r)) h = let z : ⊥ = omega arith in absurd z
+says-other : (b : Bool) (r : ℕ) → r ≤ 2 → saying (flagOf (not b)) r ≡ differ (flagOf b) r
+unfolding saying differ isMissing
+says-other true = each-symbol (λ r. saying 0 r ≡ differ 1 r) refl refl refl
+says-other false = each-symbol (λ r. saying 1 r ≡ differ 0 r) refl refl refl
 
--- of flags that were 0 as many are 1 as are altered, of flags that were 1 as many as are not
-module _ (f : ℕ → ℕ) (bits : (i : ℕ) → f i ≤ 1) where
-  abbrev flagged : ℕ
-  flagged = value (tab 8 f)
+-- once over the flags as they arrive
+module _ (flag : ℕ → ℕ) (symbols : (i : ℕ) → flag i ≤ 2) (b : Bool) where
+  abbrev flipped : ℕ
+  flipped = total 8 (λ i. differ (flagOf b) (flag i))
 
-  of-zeros : ones flagged ≡ total 8 (λ i. differ 0 (f i))
-  of-zeros = ones-of-flags f bits 8 ∙ sym (total-same 8 (λ i. differ 0 (f i)) f (λ i l. differ-zero (f i) (bits i)))
+  abbrev gone : ℕ
+  gone = total 8 (λ i. lost (flag i))
 
-  of-ones : ones flagged + total 8 (λ i. differ 1 (f i)) ≡ 8
+  for-it : ones (sayers (flagOf b) flag) + flipped + gone ≡ 8
   unfolding total
-  of-ones =
-      ap (λ (k : ℕ). k + total 8 (λ i. differ 1 (f i))) (ones-of-flags f bits 8)
-      ∙ sym (total-add 8 f (λ i. differ 1 (f i)))
-      ∙ total-same 8 (λ i. f i + differ 1 (f i)) (λ i. 1) (λ i l. differ-one (f i) (bits i))
+  for-it =
+      ap (λ (k : ℕ). k + flipped + gone) (sayers-ones (flagOf b) flag)
+      ∙ ap (λ (k : ℕ). k + gone) (sym (total-add 8 (λ i. saying (flagOf b) (flag i)) (λ i. differ (flagOf b) (flag i))))
+      ∙ sym (total-add 8 (λ i. saying (flagOf b) (flag i) + differ (flagOf b) (flag i)) (λ i. lost (flag i)))
+      ∙ total-same 8 (λ i. saying (flagOf b) (flag i) + differ (flagOf b) (flag i) + lost (flag i)) (λ i. 1) (λ i l. one-of-three b (flag i) (symbols i))
 
-  as-sent : (b : Bool) → total 8 (λ i. differ (flagOf b) (f i)) ≤ 3 → vote flagged ≡ pick b kind.Facch kind.Speech
-  as-sent true h = vote-many flagged (omega (arith, of-ones, h))
-  as-sent false h = vote-few flagged (omega (arith, of-zeros, h))
+  against : ones (sayers (flagOf (not b)) flag) ≡ flipped
+  against = sayers-ones (flagOf (not b)) flag ∙ total-same 8 (λ i. saying (flagOf (not b)) (flag i)) (λ i. differ (flagOf b) (flag i)) (λ i l. says-other b (flag i) (symbols i))
 
-  as-neither : (b : Bool) → total 8 (λ i. differ (flagOf b) (f i)) ≡ 4 → vote flagged ≡ kind.Neither
-  as-neither true h = vote-four flagged (omega (arith, of-ones, h))
-  as-neither false h = vote-four flagged (omega (arith, of-zeros, h))
+  -- 02, M-102: f altered and g missing with 2f + g at most 7 leave more that say the kind; with 8 as many
+  more : 2 * flipped + gone ≤ 7 → ones (sayers (flagOf (not b)) flag) < ones (sayers (flagOf b) flag)
+  more h = omega (arith, h, for-it, against)
+
+  even : 2 * flipped + gone ≡ 8 → ones (sayers (flagOf b) flag) ≡ ones (sayers (flagOf (not b)) flag)
+  even h = omega (arith, h, for-it, against)
+
+module _ (flag : ℕ → ℕ) (symbols : (i : ℕ) → flag i ≤ 2) where
+  as-sent : (b : Bool) → 2 * flipped flag symbols b + gone flag symbols b ≤ 7 → vote (sayers 1 flag) (sayers 0 flag) ≡ pick b kind.Facch kind.Speech
+  as-sent true h = vote-many (sayers 1 flag) (sayers 0 flag) (more flag symbols true h)
+  as-sent false h = vote-few (sayers 1 flag) (sayers 0 flag) (more flag symbols false h)
+
+  as-neither : (b : Bool) → 2 * flipped flag symbols b + gone flag symbols b ≡ 8 → vote (sayers 1 flag) (sayers 0 flag) ≡ kind.Neither
+  as-neither true h = vote-even (sayers 1 flag) (sayers 0 flag) (even flag symbols true h)
+  as-neither false h = vote-even (sayers 1 flag) (sayers 0 flag) (sym (even flag symbols false h))
 
 -- ---- what burst 4n+7 brings where block n comes back, and what that is in 01's values
 abbrev facchBack : List ℕ → ℕ → ℕ → List ℕ → Answer Taken
@@ -205,71 +217,98 @@ module _ (ds : List (List ℕ)) (lesson : Lesson ds) (lent : ℕ → List ℕ) (
       ∙ total-same 8 (λ i. differ (getD (blockFlags sent n) i 0) (getD (blockFlags rx n) i 0)) (λ i. differ (flagOf (isFacch (length d))) (getD (blockFlags rx n) i 0))
       (λ i l. ap (λ (x : ℕ). differ x (getD (blockFlags rx n) i 0)) (sent-flags i l))
 
-  -- ---- what its flags say: three altered ones don't change the vote, and four leave it open
-  module _ (rx : List ℕ) (bits : Bits rx) where
-    flag-bits : (i : ℕ) → getD (blockFlags rx n) i 0 ≤ 1
+  flags-lost : (rx : List ℕ) → flagsMissing rx n ≡ total 8 (λ i. lost (getD (blockFlags rx n) i 0))
+  unfolding flagsMissing missing blockFlags
+  flags-lost rx = ap (λ (m : ℕ). total m (λ i. lost (getD (blockFlags rx n) i 0))) (length-tab 8 (λ i. getD rx (116 * (firstBurst n + i) + pick (ltb i 4) hu hl) 0))
+
+  -- ---- what its flags say: few altered or missing ones don't change the vote, and so many leave it open
+  module _ (rx : List ℕ) (symbols : Symbols rx) where
+    abbrev flag : ℕ → ℕ
+    flag i = getD (blockFlags rx n) i 0
+
+    flag-symbols : (i : ℕ) → flag i ≤ 2
     unfolding blockFlags
-    flag-bits = bits-tab 8 (λ i. getD rx (116 * (firstBurst n + i) + pick (ltb i 4) hu hl) 0) (λ i. bits (116 * (firstBurst n + i) + pick (ltb i 4) hu hl))
+    flag-symbols = over-tab 2 8 (λ i. getD rx (116 * (firstBurst n + i) + pick (ltb i 4) hu hl) 0) (λ i. symbols (116 * (firstBurst n + i) + pick (ltb i 4) hu hl))
 
-    flags-by : blockFlags rx n ≡ tab 8 (λ i. getD (blockFlags rx n) i 0)
-    unfolding blockFlags
-    flags-by = is-tab 8 (λ i. getD (blockFlags rx n) i 0) (blockFlags rx n) (length-tab 8 (λ i. getD rx (116 * (firstBurst n + i) + pick (ltb i 4) hu hl) 0)) (λ i l. refl)
+    harmed : 2 * flagsAltered sent rx n + flagsMissing rx n ≡ 2 * total 8 (λ i. differ (flagOf (isFacch (length d))) (flag i)) + total 8 (λ i. lost (flag i))
+    harmed = ap₂ (λ (f g : ℕ). 2 * f + g) (flags-differ rx) (flags-lost rx)
 
-    vote-as-sent : flagsAltered sent rx n ≤ 3 → vote (value (blockFlags rx n)) ≡ pick (isFacch (length d)) kind.Facch kind.Speech
-    vote-as-sent few =
-        ap (λ (f : List ℕ). vote (value f)) flags-by
-        ∙ as-sent (λ i. getD (blockFlags rx n) i 0) flag-bits (isFacch (length d)) (subst (λ (x : ℕ). x ≤ 3) (flags-differ rx) few)
+    vote-as-sent : 2 * flagsAltered sent rx n + flagsMissing rx n ≤ 7 → vote (flagsThat 1 rx n) (flagsThat 0 rx n) ≡ pick (isFacch (length d)) kind.Facch kind.Speech
+    vote-as-sent few = as-sent flag flag-symbols (isFacch (length d)) (subst (λ (x : ℕ). x ≤ 7) harmed few)
 
-    pub vote-ties : flagsAltered sent rx n ≡ 4 → vote (value (blockFlags rx n)) ≡ kind.Neither
-    vote-ties four =
-        ap (λ (f : List ℕ). vote (value f)) flags-by
-        ∙ as-neither (λ i. getD (blockFlags rx n) i 0) flag-bits (isFacch (length d)) (sym (flags-differ rx) ∙ four)
+    pub vote-ties : 2 * flagsAltered sent rx n + flagsMissing rx n ≡ 8 → vote (flagsThat 1 rx n) (flagsThat 0 rx n) ≡ kind.Neither
+    vote-ties eight = as-neither flag flag-symbols (isFacch (length d)) (sym harmed ∙ eight)
 
   -- ---- what is heard of it: the block as sent, good, and the number altered
-  module _ (rx : List ℕ) (few : bitsAltered d sent rx n ≤ 3) where
+  module _ (rx : List ℕ) (few : 2 * bitsAltered d sent rx n + bitsMissing d rx n ≤ 6) where
     abbrev arrived : List ℕ
     arrived = blockBits rx n
 
+    arrived-long : length arrived ≡ 456
+    unfolding blockBits
+    arrived-long = length-tab 456 (λ k. getD rx (116 * (firstBurst n + k % 8) + eAt k) 0)
+
     pub facch-heard : isFacch (length d) ≡ true → blockHeard controlG 0 184 arrived ≡ record { bits = d; good = true; count = bitsAltered d sent rx n }
-    unfolding bitsAltered blockOf
+    unfolding bitsAltered bitsMissing blockOf
     facch-heard e =
         let block : blockBits sent n ≡ controlBlock d = sent-own ∙ ap (λ (b : Bool). pick b (controlBlock d) (speechBlock d)) e in
         let count : bitsAltered d sent rx n ≡ disagreements arrived (controlBlock d) =
         ap₂ disagreements (protected-facch d arrived e) (protected-facch d (blockBits sent n) e ∙ block) in
-        control-hearing d arrived (eqb-true (length d) 184 e) (valid .bits) (subst (λ (x : ℕ). x ≤ 3) count few)
+        control-hearing d arrived (eqb-true (length d) 184 e) (valid .bits) arrived-long (subst₂ (λ (t m : ℕ). 2 * t + m ≤ 6) count (ap missing (protected-facch d arrived e)) few)
         ∙ ap (λ (k : ℕ). record { bits = d; good = true; count = k }) (sym count)
 
-    pub speech-heard : isFacch (length d) ≡ false → speechHeard arrived ≡ record { bits = take 182 d ++ drop 378 arrived; good = true; count = bitsAltered d sent rx n }
-    unfolding bitsAltered blockOf
+    pub speech-heard : isFacch (length d) ≡ false → speechHeard arrived ≡ record { bits = take 182 d ++ drop 378 (givenBits arrived); good = true; count = bitsAltered d sent rx n }
+    unfolding bitsAltered bitsMissing blockOf
     speech-heard e =
         let block : blockBits sent n ≡ speechBlock d = sent-own ∙ ap (λ (b : Bool). pick b (controlBlock d) (speechBlock d)) e in
         let count : bitsAltered d sent rx n ≡ disagreements (take 378 arrived) (take 378 (speechBlock d)) =
         ap₂ disagreements (protected-speech d arrived e) (protected-speech d (blockBits sent n) e ∙ ap (take 378) block) in
-        speech-hearing d arrived (is-speech d (valid .kind) e) (valid .bits) (subst (λ (x : ℕ). x ≤ 3) count few)
-        ∙ ap (λ (k : ℕ). record { bits = take 182 d ++ drop 378 arrived; good = true; count = k }) (sym count)
+        speech-hearing d arrived (is-speech d (valid .kind) e) (valid .bits) arrived-long (subst₂ (λ (t m : ℕ). 2 * t + m ≤ 6) count (ap missing (protected-speech d arrived e)) few)
+        ∙ ap₂ (λ (w : List ℕ) (k : ℕ). record { bits = take 182 d ++ w; good = true; count = k }) (sym (given-drop 378 arrived)) (sym count)
 
   -- ---- what comes out
-  module _ (rx : List ℕ) (bits : Bits rx) (out : List ℕ) (few : bitsAltered d sent rx n ≤ 3) (flags : flagsAltered sent rx n ≤ 3) where
+  module _ (rx : List ℕ) (symbols : Symbols rx) (out : List ℕ) (few : 2 * bitsAltered d sent rx n + bitsMissing d rx n ≤ 6) (flags : 2 * flagsAltered sent rx n + flagsMissing rx n ≤ 7) where
     abbrev k : ℕ
     k = bitsAltered d sent rx n
 
-    comes : (b : Bool) → isFacch (length d) ≡ b → answerFor rx n out ≡ comesOut d n k (blockBits rx n) out
+    abbrev c : List ℕ
+    c = givenBits (blockBits rx n)
+
+    comes : (b : Bool) → isFacch (length d) ≡ b → answerFor rx n out ≡ comesOut d n k c out
     unfolding answerFor comesOut byKind speechOf facchOf goodOrBad
     comes true e =
-        ap (λ (x : Kind). byKind x n (blockBits rx n) out) (vote-as-sent rx bits flags ∙ ap (λ (b : Bool). pick b kind.Facch kind.Speech) e)
+        ap (λ (x : Kind). byKind x n (blockBits rx n) out) (vote-as-sent rx symbols flags ∙ ap (λ (b : Bool). pick b kind.Facch kind.Speech) e)
         ∙ ap (λ (x : Hearing). facchOf n x out) (facch-heard rx few e)
-        ∙ sym (ap (λ (b : Bool). pick b (facchBack d n k out) (speechBack d n k (blockBits rx n))) e)
+        ∙ sym (ap (λ (b : Bool). pick b (facchBack d n k out) (speechBack d n k c)) e)
     comes false e =
-        ap (λ (x : Kind). byKind x n (blockBits rx n) out) (vote-as-sent rx bits flags ∙ ap (λ (b : Bool). pick b kind.Facch kind.Speech) e)
+        ap (λ (x : Kind). byKind x n (blockBits rx n) out) (vote-as-sent rx symbols flags ∙ ap (λ (b : Bool). pick b kind.Facch kind.Speech) e)
         ∙ ap (λ (x : Hearing). speechOf n x out) (speech-heard rx few e)
-        ∙ sym (ap (λ (b : Bool). pick b (facchBack d n k out) (speechBack d n k (blockBits rx n))) e)
+        ∙ sym (ap (λ (b : Bool). pick b (facchBack d n k out) (speechBack d n k c)) e)
 
--- ---- demand 3
-pub stream-promise : StreamPromise
-stream-promise ds lesson lent ll rx out here n h few flags =
+-- ---- 02, M-102: what a block bears
+pub stream-bears : StreamBears
+stream-bears ds lesson lent ll rx out here n h few flags =
     let M : ℕ = 4 * length ds + 4 in
     let d : List ℕ = getD ds n [] in
     let said = brings-block M (omega (arith, lesson .most)) rx out here n (omega (arith, h)) in
     let is = comes ds lesson lent ll n h rx (here .bits) (out (4 * n + 7)) few flags (isFacch (length d)) refl in
-    comes-back d n (bitsAltered d (made lent ds) rx n) (blockBits rx n) (out (4 * n + 7)) (takenAt rx out (4 * n + 7))
+    comes-back d n (bitsAltered d (made lent ds) rx n) (givenBits (blockBits rx n)) (out (4 * n + 7)) (takenAt rx out (4 * n + 7))
     (subst (λ (a : Answer Taken). Meets a (takenAt rx out (4 * n + 7) .result .told) (takenAt rx out (4 * n + 7) .left)) is said)
+
+-- ---- demand 3: nothing is missing, and so the others are as received
+none-protected : (d c : List ℕ) → missing c ≡ 0 → missing (protected d c) ≡ 0
+none-protected d c none = by-kind (isFacch (length d)) refl
+  where
+    by-kind : (b : Bool) → isFacch (length d) ≡ b → missing (protected d c) ≡ 0
+    by-kind true e = ap missing (protected-facch d c e) ∙ none
+    by-kind false e = ap missing (protected-speech d c e) ∙ omega (arith, missing-take 378 c, none)
+
+none-missing : (d rx : List ℕ) (n : ℕ) → missing (blockBits rx n) ≡ 0 → bitsMissing d rx n ≡ 0
+unfolding bitsMissing
+none-missing d rx n none = none-protected d (blockBits rx n) none
+
+pub stream-promise : StreamPromise
+stream-promise ds lesson lent ll rx out here n h bits flags few few-flags =
+    let d : List ℕ = getD ds n [] in
+    subst (λ (c : List ℕ). Brings (takenAt rx out (4 * n + 7)) (kindOf d) n (bitsAltered d (made lent ds) rx n) (bitsOut d c (out (4 * n + 7)))) (given-same (blockBits rx n) bits)
+    (stream-bears ds lesson lent ll rx out here n h (omega (arith, few, none-missing d rx n bits)) (omega (arith, few-flags, flags)))

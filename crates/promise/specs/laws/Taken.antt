@@ -9,12 +9,12 @@ use lib.ListN.{length, getD, drop}
 use lib.Seq.{getD-take, getD-drop}
 use borrow.Author.Tests.{lt-ltb, le-ltb}
 use Rattle.answers.specs.Answers.{Answer, Meets}
-use Rattle.bits.specs.Bits.{Bits, pick, value}
+use Rattle.bits.specs.Bits.{Symbols, pick, value}
 use Rattle.bits.specs.laws.Cases.{lt-or-le}
 use Rattle.bits.specs.laws.Parts.{length-lent}
-use Rattle.bits.specs.laws.Sum.{bits-take, length-zeros}
-use Rattle.bits.specs.laws.Tab.{tab-same}
-use Rattle.burst.specs.Held.{heldBlockAt, heldBlock, heldFlagAt, heldFlags}
+use Rattle.bits.specs.laws.Sum.{over-take, over-drop, length-zeros}
+use Rattle.bits.specs.laws.Tab.{at-tab, tab-same}
+use Rattle.burst.specs.Held.{heldBlockAt, heldBlock, heldFlagAt, heldFlags, saying, sayers}
 use Rattle.burst.specs.Numbers.{firstBurst}
 use Rattle.places.specs.Places.{eAt, hl, hu}
 use Rattle.burst.specs.Ring.{heldBit, kept}
@@ -24,15 +24,13 @@ use Rattle.burst.specs.laws.Ring.{kept-long, kept-same, kept-other}
 use Rattle.burst.specs.declared.numbers.Ending.{Ending}
 use Rattle.kinds.specs.Kinds.{vote, byKind}
 use Rattle.stream.specs.Receiving.{blockAnswer, atEnding, burstAnswer, freshReceiver, takenNext, takeAnswer}
+use Rattle.chart.specs.declared.Kind.{Kind}
 use Rattle.chart.specs.declared.Taken.{Taken}
 use Rattle.chart.specs.declared.Taken.the-variants.{Waiting}
 use Rattle.stream.specs.declared.receiver.Received.{Received}
 use Rattle.stream.specs.declared.receiver.Receiver.{Receiver}
 use Rattle.stream.specs.laws.Receiving.{takes-on}
-use Rattle.promise.specs.Promise.{Arrives, burstOf, after, takenAt, blockBits, blockFlags, Answers, answerFor}
-
-bits-drop : (n : ℕ) (w : List ℕ) → Bits w → Bits (drop n w)
-bits-drop n w bw k = subst (λ (x : ℕ). x ≤ 1) (sym (getD-drop n w k 0)) (bw (n + k))
+use Rattle.promise.specs.Promise.{Arrives, burstOf, after, takenAt, blockBits, blockFlags, Answers, flagsThat, answerFor}
 
 pub flag-in : (i : ℕ) → pick (ltb i 4) hu hl < 116
 flag-in i = ⊎-elim (λ (l : i < 4). rw (lt-ltb i 4 l) (lit< tt)) (λ (l : 4 ≤ i). rw (le-ltb i 4 l) (lit< tt)) (lt-or-le i 4)
@@ -42,9 +40,9 @@ module _ (M : ℕ) (few : M ≤ 65536) (rx : List ℕ) (out : ℕ → List ℕ) 
   unfolding burstOf
   burst-long b h = length-lent rx (116 * b) 116 (omega (arith, here .long))
 
-  burst-bits : (b : ℕ) → Bits (burstOf rx b)
+  burst-bits : (b : ℕ) → Symbols (burstOf rx b)
   unfolding burstOf
-  burst-bits b = bits-take 116 (drop (116 * b) rx) (bits-drop (116 * b) rx (here .bits))
+  burst-bits b = over-take 2 116 (drop (116 * b) rx) (over-drop 2 (116 * b) rx (here .bits))
 
   burst-at : (b x : ℕ) → x < 116 → getD (burstOf rx b) x 0 ≡ getD rx (116 * b + x) 0
   unfolding burstOf
@@ -76,11 +74,9 @@ module _ (M : ℕ) (few : M ≤ 65536) (rx : List ℕ) (out : ℕ → List ℕ) 
         newest : b ≤ a → heldBit (kept (s .held) b (burstOf rx b)) a x ≡ getD rx (116 * a + x) 0
         newest m =
             let same : a ≡ b = omega (arith, m, p) in
-            let one : getD rx (116 * b + x) 0 ≤ 1 = here .bits (116 * b + x) in
             ap (λ (k : ℕ). heldBit (kept (s .held) b (burstOf rx b)) k x) same
-            ∙ kept-same (s .held) (burstOf rx b) b (l .long) (burst-long b h) x r
-            ∙ ap (λ (v : ℕ). v % 2) (burst-at b x r)
-            ∙ omega (arith, one)
+            ∙ kept-same (s .held) (burstOf rx b) b (l .long) (burst-long b h) x r (burst-bits b x)
+            ∙ burst-at b x r
             ∙ ap (λ (k : ℕ). getD rx (116 * k + x) 0) (sym same)
 
     on : Along (takeAnswer s b (burstOf rx b) (out b) .result .next) (suc b)
@@ -122,16 +118,20 @@ module _ (M : ℕ) (few : M ≤ 65536) (rx : List ℕ) (out : ℕ → List ℕ) 
     unfolding heldBlock heldBlockAt blockBits firstBurst
     bits-are = tab-same 456 (heldBlockAt held n) (λ k. getD rx (116 * (4 * n + k % 8) + eAt k) 0) (λ k l. stands (k % 8) (eAt k) (omega arith) (every-bit k l .within))
 
-    flags-are : heldFlags held n ≡ value (blockFlags rx n)
-    unfolding heldFlags heldFlagAt blockFlags firstBurst
-    flags-are = ap value (tab-same 8 (heldFlagAt held n) (λ i. getD rx (116 * (4 * n + i) + pick (ltb i 4) hu hl) 0) (λ i l. stands i (pick (ltb i 4) hu hl) l (flag-in i)))
+    flag-is : (i : ℕ) → i < 8 → heldFlagAt held n i ≡ getD (blockFlags rx n) i 0
+    unfolding heldFlagAt blockFlags firstBurst
+    flag-is i l = stands i (pick (ltb i 4) hu hl) l (flag-in i) ∙ sym (at-tab 8 (λ j. getD rx (116 * (4 * n + j) + pick (ltb j 4) hu hl) 0) i l)
+
+    flags-are : (b : ℕ) → heldFlags b held n ≡ flagsThat b rx n
+    unfolding heldFlags sayers
+    flags-are b = ap value (tab-same 8 (λ i. saying b (heldFlagAt held n i)) (λ i. saying b (getD (blockFlags rx n) i 0)) (λ i l. ap (saying b) (flag-is i l)))
 
     pub brings-block : Answers rx out (4 * n + 7) (answerFor rx n (out (4 * n + 7)))
     unfolding answerFor burstAnswer atEnding blockAnswer
     brings-block =
         let d : List ℕ = out (4 * n + 7) in
         said (4 * n + 7) h (answerFor rx n d)
-        (ap (λ (x : Ending). atEnding x held d) (ended-block n) ∙ ap₂ (λ (f : ℕ) (c : List ℕ). byKind (vote f) n c d) flags-are bits-are)
+        (ap (λ (x : Ending). atEnding x held d) (ended-block n) ∙ ap₂ (λ (k : Kind) (c : List ℕ). byKind k n c d) (ap₂ vote (flags-are 1) (flags-are 0)) bits-are)
 
   -- ---- and every other burst
   pub brings-nothing : (b : ℕ) → b < M → ((n : ℕ) → b ≡ 4 * n + 7 → ⊥) → Answers rx out b (record { result = Waiting; left = out b })

@@ -85,7 +85,7 @@ module _ (n : ℕ) (c d : List ℕ) where
 -- what burst b brings: one block where b is 4n+7, else nothing
 of-ending : (x : Ending) (held d : List ℕ) → Adds 1 (adds (atEnding x held d .result))
 unfolding atEnding blockAnswer adds
-of-ending (Block n) held d = of-kind (n .0) (heldBlock held (n .0)) d (vote (heldFlags held (n .0)))
+of-ending (Block n) held d = of-kind (n .0) (heldBlock held (n .0)) d (vote (heldFlags 1 held (n .0)) (heldFlags 0 held (n .0)))
 of-ending Nothing held d = record { blocks = lit≤ tt; counts = lit≤ tt }
 
 no-block : (b : ℕ) → ((n : ℕ) → b ≡ 4 * n + 7 → ⊥) → (held d : List ℕ) → adds (burstAnswer held b d .result) ≡ four 0 0 0 0

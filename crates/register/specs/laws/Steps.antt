@@ -6,9 +6,17 @@ use Prim.Native.Nat.{ℕ, zero, suc, _+_, _-_, _*_, _/_, _%_, _≤_, _<_}
 use native.Mathlib.Omega.{arith}
 use lib.ListN.{length}
 use borrow.Author.Tests.{lt-ltb, le-ltb}
-use Rattle.bits.specs.Bits.{Bits}
+use Rattle.bits.specs.Bits.{Bits, zeros}
 use Rattle.bits.specs.laws.Cases.{lt-or-le}
 use Rattle.register.specs.Register.{NotAfter, next, state, bit, from}
+
+-- of all paths of one length zeros stand first: they are what a block of which every bit is missing is decoded to (02, M-102)
+pub zeros-first : (n : ℕ) (h : List ℕ) → length h ≡ n → NotAfter (zeros n) h
+unfolding zeros NotAfter
+zeros-first zero h e = tt
+zeros-first (suc n) [] e = tt
+zeros-first (suc n) (zero ∷ h) e = inr (refl, zeros-first n h (omega (arith, e)))
+zeros-first (suc n) (suc b ∷ h) e = inl (omega arith)
 
 module _ (half : ℕ) where
   next-zero : (p : ℕ) → next half p 0 ≡ p / 2

@@ -1,12 +1,12 @@
 -- 9 is given in no other case than Says has (02, M-101): by what is judged, by what the burst ends, and by the block.
 use mathlib.Core.Bool.{Bool, true, false}
 use mathlib.Core.List.{List}
-use mathlib.Core.Path.{_≡_, refl, sym, ap, _∙_, subst}
+use mathlib.Core.Path.{_≡_, refl, sym, ap, _∙_, subst₂}
 use Prim.Native.Nat.{ℕ, _+_, _-_, _*_, _/_, _%_, _≤_, _<_}
 use native.Mathlib.Omega.{arith}
 use lib.Dec.{eqb, leb}
 use lib.ListN.{length}
-use Rattle.bits.specs.Bits.{both, allBits}
+use Rattle.bits.specs.Bits.{both, noneOver}
 use borrow.Author.Tests.{eqb-true, eqb-false, leb-true, leb-false}
 use Rattle.answers.specs.Answers.{Answer, numberOf, orNone, ofTold}
 use Rattle.answers.specs.declared.Refusal.{Refusal}
@@ -49,14 +49,14 @@ module _ (s : Receiver) (b : ℕ) (e d : List ℕ) (takes : Takeable s b e d) wh
   unfolding burstAnswer atEnding blockAnswer
   ends-block n is z =
       let c : List ℕ = heldBlock held n in
-      let brought : given (atEnding (ended b) held d .result) ≡ given (byKind (vote (heldFlags held n)) n c d .result) =
+      let brought : given (atEnding (ended b) held d .result) ≡ given (byKind (vote (heldFlags 1 held n) (heldFlags 0 held n)) n c d .result) =
       ap (λ (x : Ending). given (atEnding x held d .result)) (ap ended is ∙ ended-block n) in
-      let bad = of-flags n c d (heldFlags held n) (sym brought ∙ z) in
+      let bad = of-flags n c d (heldFlags 1 held n) (heldFlags 0 held n) (sym brought ∙ z) in
       record {
         takes = takes;
         n = n;
         ends = is;
-        bad = subst (λ (k : ℕ). BothBad k c) (held-ones held n) bad;
+        bad = subst₂ (λ (f s : ℕ). BothBad f s c) (held-ones 1 held n) (held-ones 0 held n) bad;
       }
 
   ends-none : ((n : ℕ) → b ≡ 4 * n + 7 → ⊥) → given (burstAnswer held b d .result) ≡ 9 → Nine s b e d
@@ -81,7 +81,7 @@ module _ (s : Receiver) (b : ℕ) (e d : List ℕ) (nine : given (takeAnswer s b
 
   not-refused : (r : Refusal) → takeTold s b e d ≡ told.Refused r → ⊥
   unfolding takeTold
-  not-refused r h = judged-other (both (eqb (length e) 116) (eqb (length d) 260)) (allBits e) (leb 65536 (s .next .0)) (eqb b (s .next .0)) r h (refused r h)
+  not-refused r h = judged-other (both (eqb (length e) 116) (eqb (length d) 260)) (noneOver 2 e) (leb 65536 (s .next .0)) (eqb b (s .next .0)) r h (refused r h)
 
   by-told : (t : Told) → takeTold s b e d ≡ t → Nine s b e d
   by-told told.Done h =

@@ -5,45 +5,48 @@ use mathlib.Core.Path.{_≡_, refl, sym, ap, ap₂, _∙_, subst}
 use Prim.Native.Nat.{ℕ, _+_, _-_, _*_, _/_, _%_, _≤_, _<_}
 use native.Mathlib.Omega.{arith}
 use lib.Dec.{eqb, leb}
-use lib.ListN.{length}
+use lib.ListN.{length, getD}
 use borrow.Author.Tests.{eqb-true, leb-false, eq-eqb, ne-eqb, le-leb, lt-leb}
-use Rattle.bits.specs.Bits.{Bits, both, allBits}
+use Rattle.bits.specs.Bits.{Symbols, both, noneOver}
 use Rattle.bits.specs.laws.Cases.{both-first, both-second}
-use Rattle.bits.specs.laws.Check.{all-bits, bits-all}
-use Rattle.bits.specs.laws.Tab.{bits-tab, length-tab}
+use Rattle.bits.specs.laws.Check.{none-over, over-none}
+use Rattle.bits.specs.laws.Missing.{symbol-le}
+use Rattle.bits.specs.laws.Tab.{over-tab, length-tab}
 use Rattle.answers.specs.Answers.{Answer, Meets}
 use Rattle.answers.specs.declared.Refusal.{Refusal}
 use Rattle.answers.specs.declared.Told.{Told}
 use Rattle.answers.specs.declared.Told.the-variants as told
 use Rattle.burst.specs.Held.{heldBlockAt, heldBlock, heldFlags}
-use Rattle.burst.specs.Numbers.{ended}
+use Rattle.burst.specs.Numbers.{firstBurst, ended}
 use Rattle.burst.specs.Ring.{heldBit, kept}
 use Rattle.burst.specs.declared.numbers.Ending.{Ending}
 use Rattle.stream.specs.Says.{Takeable}
 use Rattle.kinds.specs.Kinds.{vote, byKind}
 use Rattle.stream.specs.Receiving.{takeJudged, takeTold, blockAnswer, atEnding, burstAnswer, takenNext, afterTaking, takeAnswer}
+use Rattle.places.specs.Places.{eAt}
+use Rattle.chart.specs.declared.Kind.{Kind}
 use Rattle.chart.specs.declared.Taken.{Taken}
 use Rattle.chart.specs.declared.Taken.the-variants as taken
 use Rattle.stream.specs.declared.receiver.Received.{Received}
 use Rattle.stream.specs.declared.receiver.Receiver.{Receiver}
 
 -- ---- the block that is gathered
-held-bits : (held : List ℕ) (n : ℕ) → Bits (heldBlock held n)
+held-bits : (held : List ℕ) (n : ℕ) → Symbols (heldBlock held n)
 unfolding heldBlock heldBlockAt heldBit
-held-bits held n = bits-tab 456 (heldBlockAt held n) (λ k. omega arith)
+held-bits held n = over-tab 2 456 (heldBlockAt held n) (λ k. symbol-le (getD held (116 * ((firstBurst n + k % 8) % 8) + eAt k) 0))
 
 held-long : (held : List ℕ) (n : ℕ) → length (heldBlock held n) ≡ 456
 unfolding heldBlock
 held-long held n = length-tab 456 (heldBlockAt held n)
 
-pub held-given : (held d c : List ℕ) (n : ℕ) → c ≡ heldBlock held n → length d ≡ 260 → (length c ≡ 456) × Bits c × (length d ≡ 260)
-held-given held d c n e ld = (ap length e ∙ held-long held n, subst Bits (sym e) (held-bits held n), ld)
+pub held-given : (held d c : List ℕ) (n : ℕ) → c ≡ heldBlock held n → length d ≡ 260 → (length c ≡ 456) × Symbols c × (length d ≡ 260)
+held-given held d c n e ld = (ap length e ∙ held-long held n, subst Symbols (sym e) (held-bits held n), ld)
 
 -- ---- the block that is held, and the block that the burst ends
-pub block-brought : (held d c : List ℕ) (n flags : ℕ) → c ≡ heldBlock held n → flags ≡ heldFlags held n
-    → (r : Taken) (after : List ℕ) → Meets (byKind (vote flags) n c d) r after → Meets (blockAnswer held n d) r after
+pub block-brought : (held d c : List ℕ) (n ones zeros : ℕ) → c ≡ heldBlock held n → ones ≡ heldFlags 1 held n → zeros ≡ heldFlags 0 held n
+    → (r : Taken) (after : List ℕ) → Meets (byKind (vote ones zeros) n c d) r after → Meets (blockAnswer held n d) r after
 unfolding blockAnswer
-block-brought held d c n flags ec ef r after = subst (λ (a : Answer Taken). Meets a r after) (ap₂ (λ (f : ℕ) (x : List ℕ). byKind (vote f) n x d) ef ec)
+block-brought held d c n ones zeros ec ef es r after = subst (λ (a : Answer Taken). Meets a r after) (ap₂ (λ (k : Kind) (x : List ℕ). byKind k n x d) (ap₂ vote ef es) ec)
 
 pub at-ending : (held d : List ℕ) (b : ℕ) (x y : Ending) → x ≡ y → x ≡ ended b → atEnding y held d ≡ burstAnswer held b d
 unfolding burstAnswer
@@ -68,11 +71,11 @@ pub take-able : (s : Receiver) (b : ℕ) (e d : List ℕ) (r : Told) → r ≡ t
 unfolding takeTold
 take-able s b e d r h f =
     let l : Bool = both (eqb (length e) 116) (eqb (length d) 260) in
-    let held = done-held l (allBits e) (leb 65536 (s .next .0)) (eqb b (s .next .0)) (sym h ∙ f) in
+    let held = done-held l (noneOver 2 e) (leb 65536 (s .next .0)) (eqb b (s .next .0)) (sym h ∙ f) in
     record {
       reads = eqb-true (length e) 116 (both-first (eqb (length e) 116) (eqb (length d) 260) (held .lengths));
       writes = eqb-true (length d) 260 (both-second (eqb (length e) 116) (eqb (length d) 260) (held .lengths));
-      bits = all-bits e (held .bits);
+      bits = none-over 2 e (held .bits);
       room = leb-false 65536 (s .next .0) (held .room);
       turn = eqb-true b (s .next .0) (held .turn);
     }
@@ -93,4 +96,4 @@ pub takes-on : (s : Receiver) (b : ℕ) (e d : List ℕ) → Takeable s b e d
     → takeAnswer s b e d ≡ record { result = record { told = burstAnswer (kept (s .held) b e) b d .result; next = takenNext s e (burstAnswer (kept (s .held) b e) b d .result) }; left = burstAnswer (kept (s .held) b e) b d .left }
 unfolding takeAnswer takeTold takeJudged afterTaking
 takes-on s b e d a =
-    rw (a .turn, eq-eqb (length e) 116 (a .reads), eq-eqb (length d) 260 (a .writes), bits-all e (a .bits), lt-leb 65536 (s .next .0) (a .room), eq-eqb (s .next .0) (s .next .0) refl) refl
+    rw (a .turn, eq-eqb (length e) 116 (a .reads), eq-eqb (length d) 260 (a .writes), over-none 2 e (a .bits), lt-leb 65536 (s .next .0) (a .room), eq-eqb (s .next .0) (s .next .0) refl) refl

@@ -7,16 +7,16 @@ use native.Mathlib.Omega.{arith}
 use lib.Dec.{eqb, leb, ltb, lit≤}
 use lib.ListN.{length, take, drop}
 use borrow.Author.Tests.{eqb-true, eq-eqb, ne-eqb, le-leb, lt-leb, lt-ltb, le-ltb}
-use Rattle.bits.specs.Bits.{Bits, pick, both, allBits, total}
+use Rattle.bits.specs.Bits.{pick, both, noneOver}
 use Rattle.bits.specs.laws.Cases.{both-first, both-second, not-true}
-use Rattle.bits.specs.laws.Check.{all-bits, bits-all}
+use Rattle.bits.specs.laws.Check.{none-over, over-none}
 use Rattle.answers.specs.Answers.{Answer, numberOf, returned, ofTold}
 use Rattle.answers.specs.declared.Maybe.the-variants.{None, Some}
 use Rattle.answers.specs.declared.Refusal.{Refusal}
 use Rattle.answers.specs.declared.Refusal.the-variants.{Length, NotBits, OutOfTurn, Full, NothingSent, Ended}
 use Rattle.answers.specs.declared.Told.{Told}
 use Rattle.answers.specs.declared.Told.the-variants.{Done, Refused}
-use Rattle.burst.specs.Held.{heldFlagAt, heldFlags, heldBlock}
+use Rattle.burst.specs.Held.{heldFlags, heldBlock}
 use Rattle.burst.specs.Numbers.{ended}
 use Rattle.burst.specs.Ring.{kept}
 use Rattle.burst.specs.declared.numbers.Ending.{Ending}
@@ -30,7 +30,7 @@ use Rattle.chart.specs.Totals.{more, counted}
 use Rattle.chart.specs.laws.Totals.{adds-says}
 use Rattle.chart.specs.Answers.{values, ofTaken}
 use Rattle.stream.specs.Receiving.{freshReceiver, takeJudged, takeTold, blockAnswer, atEnding, burstAnswer, takenNext, afterTaking, takeAnswer}
-use Rattle.stream.specs.Says.{SentReturns, FreshSays, Sendable, SendSays, Endable, EndSays, TakeReturns, Takeable, refuses, TakeSays}
+use Rattle.stream.specs.Says.{SentReturns, FreshSays, Sendable, SendSays, Endable, EndSays, TakeReturns, Takeable, flagsSaying, refuses, TakeSays}
 use Rattle.stream.specs.Sending.{freshSender, isBlock, sendJudged, sendTold, sentBursts, sentNext, sendAnswer, endJudged, endTold, endBursts, endNext, endAnswer, afterwards}
 use Rattle.stream.specs.laws.Receiving.{take-able, takes-on}
 use Rattle.stream.specs.laws.Sending.{send-able, sends-on, end-able, ends-on}
@@ -73,9 +73,9 @@ module _ (s : Sender) (d e : List ℕ) where
       let lengths : Bool = both (isBlock (length d)) (eqb (length e) 464) in
       record {
         one = λ h. send-refused Length (rw (not-true lengths (λ (f : lengths ≡ true). h (both-first (isBlock (length d)) (eqb (length e) 464) f, eqb-true (length e) 464 (both-second (isBlock (length d)) (eqb (length e) 464) f)))) refl);
-        two = λ reads writes h. send-refused NotBits (rw (reads, eq-eqb (length e) 464 writes, not-true (allBits d) (λ (f : allBits d ≡ true). h (all-bits d f))) refl);
-        seven = λ reads writes bits h. send-refused Ended (rw (reads, eq-eqb (length e) 464 writes, bits-all d bits, h) refl);
-        five = λ reads writes bits unended h. send-refused Full (rw (reads, eq-eqb (length e) 464 writes, bits-all d bits, unended, le-leb 16383 (s .sent .0) h) refl);
+        two = λ reads writes h. send-refused NotBits (rw (reads, eq-eqb (length e) 464 writes, not-true (noneOver 1 d) (λ (f : noneOver 1 d ≡ true). h (none-over 1 d f))) refl);
+        seven = λ reads writes bits h. send-refused Ended (rw (reads, eq-eqb (length e) 464 writes, over-none 1 d bits, h) refl);
+        five = λ reads writes bits unended h. send-refused Full (rw (reads, eq-eqb (length e) 464 writes, over-none 1 d bits, unended, le-leb 16383 (s .sent .0) h) refl);
         done = λ a. returns-so (sendAnswer s d e) Done (sentBursts s d) (sentNext s d) (sends-on s d e a);
         counts = (refl, refl);
         only = λ f. send-able s d e (sendTold s d e) refl (sym send-told ∙ told-done (sendAnswer s d e .result .told) f);
@@ -133,7 +133,7 @@ module _ (s : Receiver) (b : ℕ) (e d : List ℕ) where
   unfolding burstAnswer atEnding
   waits other = ap (λ (x : Ending). atEnding x held d) (ended-none b other)
 
-  brought : (n : ℕ) → b ≡ 4 * n + 7 → burstAnswer held b d ≡ byKind (vote (heldFlags held n)) n (heldBlock held n) d
+  brought : (n : ℕ) → b ≡ 4 * n + 7 → burstAnswer held b d ≡ byKind (vote (heldFlags 1 held n) (heldFlags 0 held n)) n (heldBlock held n) d
   unfolding burstAnswer atEnding blockAnswer
   brought n is = ap (λ (x : Ending). atEnding x held d) (ap ended is ∙ ended-block n)
 
@@ -152,11 +152,11 @@ module _ (s : Receiver) (b : ℕ) (e d : List ℕ) where
       let lengths : Bool = both (eqb (length e) 116) (eqb (length d) 260) in
       record {
         one = λ h. take-refused Length (rw (not-true lengths (λ (f : lengths ≡ true). h (eqb-true (length e) 116 (both-first (eqb (length e) 116) (eqb (length d) 260) f), eqb-true (length d) 260 (both-second (eqb (length e) 116) (eqb (length d) 260) f)))) refl);
-        two = λ reads writes h. take-refused NotBits (rw (eq-eqb (length e) 116 reads, eq-eqb (length d) 260 writes, not-true (allBits e) (λ (f : allBits e ≡ true). h (all-bits e f))) refl);
-        five = λ reads writes bits h. take-refused Full (rw (eq-eqb (length e) 116 reads, eq-eqb (length d) 260 writes, bits-all e bits, le-leb 65536 (s .next .0) h) refl);
-        four = λ reads writes bits room h. take-refused OutOfTurn (rw (eq-eqb (length e) 116 reads, eq-eqb (length d) 260 writes, bits-all e bits, lt-leb 65536 (s .next .0) room, ne-eqb b (s .next .0) h) refl);
+        two = λ reads writes h. take-refused NotBits (rw (eq-eqb (length e) 116 reads, eq-eqb (length d) 260 writes, not-true (noneOver 2 e) (λ (f : noneOver 2 e ≡ true). h (none-over 2 e f))) refl);
+        five = λ reads writes bits h. take-refused Full (rw (eq-eqb (length e) 116 reads, eq-eqb (length d) 260 writes, over-none 2 e bits, le-leb 65536 (s .next .0) h) refl);
+        four = λ reads writes bits room h. take-refused OutOfTurn (rw (eq-eqb (length e) 116 reads, eq-eqb (length d) 260 writes, over-none 2 e bits, lt-leb 65536 (s .next .0) room, ne-eqb b (s .next .0) h) refl);
         waiting = λ a other. brings a taken.Waiting d (waits other);
-        block = λ a n is. block-says (heldFlags held n) n (heldBlock held n) d (λ v left. TakeReturns (takeAnswer s b e d) v left (takenNext s e (takeAnswer s b e d .result .told))) (λ t left f. brings-told a t left (brought n is ∙ f)) (total 8 (heldFlagAt held n)) (held-ones held n);
+        block = λ a n is. block-says (heldFlags 1 held n) (heldFlags 0 held n) n (heldBlock held n) d (λ v left. TakeReturns (takeAnswer s b e d) v left (takenNext s e (takeAnswer s b e d .result .told))) (λ t left f. brings-told a t left (brought n is ∙ f)) (flagsSaying 1 held n) (flagsSaying 0 held n) (held-ones 1 held n) (held-ones 0 held n);
         counts = λ t. refl;
         totals = λ t. ap (more (s .totals)) (adds-says t);
         only = λ f. take-able s b e d (takeTold s b e d) refl (next-only f);

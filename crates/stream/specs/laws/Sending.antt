@@ -7,9 +7,9 @@ use native.Mathlib.Omega.{arith}
 use lib.Dec.{eqb, leb, lit≤}
 use lib.ListN.{length}
 use borrow.Author.Tests.{eqb-true, eqb-false, leb-false, eq-eqb, ne-eqb, lt-leb}
-use Rattle.bits.specs.Bits.{Bits, pick, both, allBits}
+use Rattle.bits.specs.Bits.{Bits, pick, both, noneOver}
 use Rattle.bits.specs.laws.Cases.{both-first, both-second}
-use Rattle.bits.specs.laws.Check.{all-bits, bits-all}
+use Rattle.bits.specs.laws.Check.{none-over, over-none}
 use Rattle.answers.specs.Answers.{Answer, Meets}
 use Rattle.answers.specs.declared.Refusal.{Refusal}
 use Rattle.answers.specs.declared.Told.{Told}
@@ -49,11 +49,11 @@ pub send-able : (s : Sender) (d e : List ℕ) (r : Told) → r ≡ sendTold s d 
 unfolding sendTold
 send-able s d e r h f =
     let l : Bool = both (isBlock (length d)) (eqb (length e) 464) in
-    let held = done-held l (allBits d) (s .ended) (leb 16383 (s .sent .0)) (sym h ∙ f) in
+    let held = done-held l (noneOver 1 d) (s .ended) (leb 16383 (s .sent .0)) (sym h ∙ f) in
     record {
       reads = both-first (isBlock (length d)) (eqb (length e) 464) (held .lengths);
       writes = eqb-true (length e) 464 (both-second (isBlock (length d)) (eqb (length e) 464) (held .lengths));
-      bits = all-bits d (held .bits);
+      bits = none-over 1 d (held .bits);
       unended = held .unended;
       room = leb-false 16383 (s .sent .0) (held .room);
     }
@@ -114,7 +114,7 @@ module _ (d c : List ℕ) (bd : Bits d) (lc : length c ≡ 456) where
 pub sends-on : (s : Sender) (d e : List ℕ) → Sendable s d e → sendAnswer s d e ≡ record { result = record { told = Done; next = sentNext s d }; left = sentBursts s d }
 unfolding sendAnswer sendTold sendJudged afterwards
 sends-on s d e a =
-    rw (a .reads, eq-eqb (length e) 464 (a .writes), bits-all d (a .bits), a .unended, lt-leb 16383 (s .sent .0) (a .room)) refl
+    rw (a .reads, eq-eqb (length e) 464 (a .writes), over-none 1 d (a .bits), a .unended, lt-leb 16383 (s .sent .0) (a .room)) refl
 
 pub ends-on : (s : Sender) (e : List ℕ) → Endable s e → endAnswer s e ≡ record { result = record { told = Done; next = endNext s }; left = endBursts s }
 unfolding endAnswer endTold endJudged afterwards

@@ -4,28 +4,19 @@ use mathlib.Core.Logic.{_⊎_, ⊎-elim, inl, inr}
 use mathlib.Core.Path.{_≡_, refl, sym, ap, ap₂, _∙_, subst}
 use Prim.Native.Nat.{ℕ, zero, suc, _+_, _*_, _/_, _%_, _≤_, _<_}
 use native.Mathlib.Omega.{arith}
-use mathlib.Core.Bool.{Bool, true, false}
-use lib.Dec.{eqb}
 use lib.ListN.{length, getD, length-reverse}
-use Rattle.bits.specs.Bits.{Bits, pick, zeros}
+use Rattle.bits.specs.Bits.{Bits, zeros, differ}
+use Rattle.bits.specs.laws.Missing.{differ-le}
 use Rattle.bits.specs.laws.Sum.{length-zeros, bits-zeros}
 use Rattle.register.specs.Register.{NotAfter, next, state, pathCost, Least, way, best, walk}
 use Rattle.register.specs.laws.Nearest.{good}
 use Rattle.register.specs.laws.Steps.{same-path}
 use Rattle.convolution.specs.Pairs.{coded, stateAt, pairOf}
-use Rattle.trellis.specs.Nearest.{differ, disagreements, pairCost, Nearest, Ends, Reached, Fewest, rowAt, nearest, nearestCount, longest}
+use Rattle.trellis.specs.Nearest.{disagreements, pairCost, Nearest, Ends, Reached, Fewest, rowAt, nearest, nearestCount, longest}
 use Rattle.trellis.specs.laws.Candidates.{candidate-state, path-candidate}
 use Rattle.trellis.specs.laws.Paths.{bits-reverse, path-state, path-cost}
 
 -- ---- a path costs at most two a pair
-pub one-or-none : (t : Bool) → pick t 0 1 ≤ 1
-one-or-none true = omega arith
-one-or-none false = omega arith
-
-pub differ-le : (x r : ℕ) → differ x r ≤ 1
-unfolding differ
-differ-le x r = one-or-none (eqb x r)
-
 pub cost-le : (r : List ℕ) (k s b : ℕ) → pairCost r k s b ≤ 2
 unfolding pairCost
 cost-le r k s b = omega (arith, differ-le (pairOf s b / 2) (getD r (2 * k) 0), differ-le (pairOf s b % 2) (getD r (2 * k + 1) 0))

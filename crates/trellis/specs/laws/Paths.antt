@@ -6,14 +6,14 @@ use Prim.Native.Nat.{ℕ, suc, _+_, _-_, _*_, _/_, _≤_, _<_}
 use native.Mathlib.Numerals.{add-one}
 use native.Mathlib.Omega.{arith}
 use lib.ListN.{length, getD, length-append, length-reverse, List·getD-append}
-use Rattle.bits.specs.Bits.{Bits, total}
+use Rattle.bits.specs.Bits.{Bits, total, differ}
 use Rattle.bits.specs.laws.Cases.{lt-or-le}
 use Rattle.bits.specs.laws.Sum.{bits-append, bits-cons}
 use Rattle.bits.specs.laws.Total.{total-same}
 use Rattle.bits.specs.laws.Tab.{at-tab, at-right}
 use Rattle.register.specs.Register.{next, state, pathCost}
 use Rattle.convolution.specs.Pairs.{back, first, second, codedAt, coded, stateAt, pairOf}
-use Rattle.trellis.specs.Nearest.{differ, disagreements, pairCost}
+use Rattle.trellis.specs.Nearest.{disagreements, pairCost}
 use Rattle.convolution.specs.laws.Pairs.{back-early, back-late, length-coded, state-start, state-next, pair-first, pair-second}
 
 -- the disagreements with the pairs of u, by the index

@@ -20,7 +20,7 @@ returns c =
     let first = c .before .before .before .first-burst in
     let index = c .before .flag-index in
     let bit = c .held-bit in
-    (bit .ensures .0 ∙ ap₂ (λ (b x : ℕ). heldBit (s .held .now) (b + s .i) x) (first .ensures) (index .ensures .0), bit .ensures .1)
+    bit .ensures ∙ ap₂ (λ (b x : ℕ). heldBit (s .held .now) (b + s .i) x) (first .ensures) (index .ensures .0)
 
 pub held-flag-spec : {M : Type 1} → statement M
 held-flag-spec = tie.close (tie.spec (λ c κs. search needs) add-t5 (λ c κs. search needs) (λ c κs. search needs) returns)

@@ -1,6 +1,9 @@
 -- `stream::receiver::judge_take` is right: each answer is the case of `takeJudged` to which the tests on the way lead.
+use mathlib.Core.Bool.{false}
+use mathlib.Core.Path.{_≡_, sym, _∙_}
 use borrow.Author.Needs.{needs}
 use borrow.Author.Tests.{eq-eqb, ne-eqb, le-leb, lt-leb, not-true, not-false}
+use Rattle.bits.specs.Bits.{noneOver}
 use Rattle.stream.specs.Receiving.{takeJudged}
 use Rattle.stream.proofs.receiver.judge_take.Statement.{statement}
 use Rattle.stream.proofs.receiver.judge_take.Tie as tie
@@ -15,7 +18,10 @@ returns-2 c = simp (eq-eqb _ _ (c .before .if1 .left), ne-eqb _ _ (c .if2 .taken
 
 returns-3 : tie.Need-returns-3
 unfolding takeJudged
-returns-3 c = simp (eq-eqb _ _ (c .before .before .before .if1 .left), eq-eqb _ _ (c .before .before .if2 .left), ← c .before .are-bits .ensures, not-true (c .before .are-bits .result) (c .if3 .taken))
+returns-3 c =
+    let e = c .before .before .before .before .before .args .e .now in
+    let over : noneOver 2 e ≡ false = sym (c .before .none-over .ensures) ∙ not-true (c .before .none-over .result) (c .if3 .taken) in
+    simp (eq-eqb _ _ (c .before .before .before .if1 .left), eq-eqb _ _ (c .before .before .if2 .left), over)
 
 returns-4 : tie.Need-returns-4
 unfolding takeJudged
@@ -23,8 +29,8 @@ returns-4 c =
     simp (
       eq-eqb _ _ (c .before .before .before .before .before .if1 .left),
       eq-eqb _ _ (c .before .before .before .before .if2 .left),
-      ← c .before .before .before .are-bits .ensures,
-      not-false (c .before .before .before .are-bits .result) (c .before .before .if3 .left),
+      ← c .before .before .before .none-over .ensures,
+      not-false (c .before .before .before .none-over .result) (c .before .before .if3 .left),
       le-leb _ _ (c .if4 .taken),
     )
 
@@ -34,8 +40,8 @@ returns-5 c =
     simp (
       eq-eqb _ _ (c .before .before .before .before .before .before .before .before .if1 .left),
       eq-eqb _ _ (c .before .before .before .before .before .before .before .if2 .left),
-      ← c .before .before .before .before .before .before .are-bits .ensures,
-      not-false (c .before .before .before .before .before .before .are-bits .result) (c .before .before .before .before .before .if3 .left),
+      ← c .before .before .before .before .before .before .none-over .ensures,
+      not-false (c .before .before .before .before .before .before .none-over .result) (c .before .before .before .before .before .if3 .left),
       lt-leb _ _ (c .before .before .before .if4 .left),
       ne-eqb _ _ (c .if5 .taken),
     )
@@ -46,8 +52,8 @@ returns-6 c =
     simp (
       eq-eqb _ _ (c .before .before .before .before .before .before .before .before .if1 .left),
       eq-eqb _ _ (c .before .before .before .before .before .before .before .if2 .left),
-      ← c .before .before .before .before .before .before .are-bits .ensures,
-      not-false (c .before .before .before .before .before .before .are-bits .result) (c .before .before .before .before .before .if3 .left),
+      ← c .before .before .before .before .before .before .none-over .ensures,
+      not-false (c .before .before .before .before .before .before .none-over .result) (c .before .before .before .before .before .if3 .left),
       lt-leb _ _ (c .before .before .before .if4 .left),
       eq-eqb _ _ (c .if5 .left),
     )

@@ -20,8 +20,8 @@ returns-3 c =
       ← c .before .before .before .before .is-block .ensures,
       not-false (c .before .before .before .before .is-block .result) (c .before .before .before .if1 .left),
       eq-eqb _ _ (c .before .before .if2 .left),
-      ← c .before .are-bits .ensures,
-      not-true (c .before .are-bits .result) (c .if3 .taken),
+      ← c .before .none-over .ensures,
+      not-true (c .before .none-over .result) (c .if3 .taken),
     )
 
 returns-4 : tie.Need-returns-4
@@ -31,8 +31,8 @@ returns-4 c =
       ← c .before .before .before .before .before .is-block .ensures,
       not-false (c .before .before .before .before .before .is-block .result) (c .before .before .before .before .if1 .left),
       eq-eqb _ _ (c .before .before .before .if2 .left),
-      ← c .before .before .are-bits .ensures,
-      not-false (c .before .before .are-bits .result) (c .before .if3 .left),
+      ← c .before .before .none-over .ensures,
+      not-false (c .before .before .none-over .result) (c .before .if3 .left),
       c .if4 .taken,
     )
 
@@ -43,8 +43,8 @@ returns-5 c =
       ← c .before .before .before .before .before .before .before .is-block .ensures,
       not-false (c .before .before .before .before .before .before .before .is-block .result) (c .before .before .before .before .before .before .if1 .left),
       eq-eqb _ _ (c .before .before .before .before .before .if2 .left),
-      ← c .before .before .before .before .are-bits .ensures,
-      not-false (c .before .before .before .before .are-bits .result) (c .before .before .before .if3 .left),
+      ← c .before .before .before .before .none-over .ensures,
+      not-false (c .before .before .before .before .none-over .result) (c .before .before .before .if3 .left),
       c .before .before .if4 .left,
       le-leb _ _ (c .if5 .taken),
     )
@@ -56,8 +56,8 @@ returns-6 c =
       ← c .before .before .before .before .before .before .before .is-block .ensures,
       not-false (c .before .before .before .before .before .before .before .is-block .result) (c .before .before .before .before .before .before .if1 .left),
       eq-eqb _ _ (c .before .before .before .before .before .if2 .left),
-      ← c .before .before .before .before .are-bits .ensures,
-      not-false (c .before .before .before .before .are-bits .result) (c .before .before .before .if3 .left),
+      ← c .before .before .before .before .none-over .ensures,
+      not-false (c .before .before .before .before .none-over .result) (c .before .before .before .if3 .left),
       c .before .before .if4 .left,
       lt-leb _ _ (c .if5 .left),
     )

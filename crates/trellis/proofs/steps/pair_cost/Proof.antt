@@ -3,7 +3,7 @@ use mathlib.Core.Path.{ap, ap₂, _∙_}
 use Prim.Native.Nat.{ℕ, _+_, _/_, _%_}
 use borrow.Author.Needs.{needs}
 use native.Mathlib.Omega.{arith}
-use Rattle.trellis.specs.Nearest.{differ}
+use Rattle.bits.specs.Bits.{differ}
 use Rattle.trellis.proofs.steps.pair_cost.Statement.{statement}
 use Rattle.trellis.proofs.steps.pair_cost.Tie as tie
 
