@@ -7,7 +7,7 @@ ghost use Rattle.answers.specs.declared.Maybe.the-variants.{Some};
 pub enum Refusal {
     // 1: a lent buffer has another length than the table says
     Length,
-    // 2: a byte that is read as a bit is over 1
+    // 2: a byte that is read as a bit is over 1 where it is sent, over 2, a missing bit, where it is received (02, M-102)
     NotBits,
     // 3: the identity is over 63
     Identity,
@@ -21,7 +21,7 @@ pub enum Refusal {
     Ended,
     // 8: the parity is bad
     Parity,
-    // 9: four of the eight flags are 1, and the parity is bad as FACCH and as speech
+    // 9: as many of a block's flags are 1 as are 0, and its parity is bad as FACCH and as speech (02, M-101 and M-102)
     Flags,
 }
 

@@ -20,7 +20,7 @@ pub enum Taken {
     Refused(Refusal),
     // the parity of this block is bad; with the count
     Bad(BlockNumber, u16),
-    // four of this block's eight flags are 1, and its parity is bad as FACCH and as speech
+    // as many of this block's flags are 1 as are 0, and its parity is bad as FACCH and as speech
     Tie(BlockNumber),
 }
 

@@ -30,7 +30,7 @@ single n k = tab n (λ i. pick (eqb i k) 1 0)
 abbrev pub lit : List ℕ
 lit = tab 260 (λ k. pick (both (leb 188 k) (leb k 195)) 1 0)
 
--- a FACCH and a speech block that are sent as the same 456 bits (02, M-101: such speech comes out as FACCH where four flags are 1). The FACCH has ones
+-- a FACCH and a speech block that are sent as the same 456 bits (02, M-101: such speech comes out as FACCH where as many flags are 1 as are 0). The FACCH has ones
 -- at d(0) and d(4); the speech has those of u at d(0) and d(8), and the FACCH's last 78 coded bits for its own
 abbrev pub facchToo : List ℕ
 facchToo = tab 184 (λ k. pick (eqb k 0) 1 (pick (eqb k 4) 1 0))
