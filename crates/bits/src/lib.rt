@@ -25,7 +25,12 @@ pub fn largest(w: &[u8]) -> u8
     most
 }
 
-// Is no byte of w over `most`? (01, Numbers given for a no, 2)
+// The highest byte that may be sent, a bit, and that may be received, a missing bit (01, Numbers given for a no, 2; 02, M-102).
+pub const SENT: u8 = 1;
+
+pub const RECEIVED: u8 = 2;
+
+// Is no byte of w over `most`?
 pub fn none_over(w: &[u8], most: u8) -> bool
     ensures { λ r. ⌜ r ≡ noneOver most (now (w .entry)) ⌝ }
 {

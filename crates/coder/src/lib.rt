@@ -24,11 +24,6 @@ pub struct View {
     pub row: [u16; 16],
 }
 
-// Refusal 2 (01; 02, M-102): what is sent has no byte over 1, what is received none over 2, which is a missing bit.
-const SENT: u8 = 1;
-
-const RECEIVED: u8 = 2;
-
 // The view reads at most 228 pairs, however long a block may be.
 const VIEWED: usize = 228;
 
@@ -56,7 +51,7 @@ fn send_block(f: Format, identity: u64, d: &[u8], c: &mut [u8]) -> Told
     requires { ⌜ Fits f ⌝ }
     ensures { λ r. ⌜ Meets (entry (f .bits) (f .coded) identity (now (d .entry)) (coded (laidOut (f .generator) (f .degree) identity (now (d .entry)))) (now (c .entry))) r (now (c .exit)) ⌝ }
 {
-    let told = judge(d, SENT, f.bits, c.len(), f.coded, identity);
+    let told = judge(d, bits::SENT, f.bits, c.len(), f.coded, identity);
     if let Told::Done = told {
         block::code(f.generator, f.degree, identity, d, c);
     }
@@ -68,7 +63,7 @@ fn receive_block(f: Format, identity: u64, c: &[u8], d: &mut [u8]) -> Heard
     requires { ⌜ Fits f ⌝ }
     ensures { λ r. ⌜ Meets (reception (f .coded) (f .bits) identity (now (c .entry)) (blockHeard (generatorOf f) identity (f .bits) (now (c .entry))) (now (d .entry))) r (now (d .exit)) ⌝ }
 {
-    let told = judge(c, RECEIVED, f.coded, d.len(), f.bits, identity);
+    let told = judge(c, bits::RECEIVED, f.coded, d.len(), f.bits, identity);
     match told {
         Told::Done => block::receive(f, identity, c, d),
         Told::Refused(why) => Heard::Refused(why),
@@ -79,7 +74,7 @@ fn receive_block(f: Format, identity: u64, c: &[u8], d: &mut [u8]) -> Heard
 pub fn send_speech(d: &[u8], c: &mut [u8]) -> Told
     ensures { λ r. ⌜ Meets (speechSent (now (d .entry)) (now (c .entry))) r (now (c .exit)) ⌝ }
 {
-    let told = judge(d, SENT, 260, c.len(), 456, 0);
+    let told = judge(d, bits::SENT, 260, c.len(), 456, 0);
     if let Told::Done = told {
         speech::code(d, c);
     }
@@ -97,7 +92,7 @@ pub fn send_control(d: &[u8], c: &mut [u8]) -> Told
 pub fn send_sacch(d: &[u8], e: &mut [u8]) -> Told
     ensures { λ r. ⌜ Meets (sacchSent (now (d .entry)) (now (e .entry))) r (now (e .exit)) ⌝ }
 {
-    let told = judge(d, SENT, 184, e.len(), 464, 0);
+    let told = judge(d, bits::SENT, 184, e.len(), 464, 0);
     if let Told::Done = told {
         sacch::code(d, e);
     }
@@ -122,7 +117,7 @@ pub fn send_sch(d: &[u8], e: &mut [u8]) -> Told
 pub fn receive_speech(c: &[u8], d: &mut [u8]) -> Heard
     ensures { λ r. ⌜ Meets (speechReceived (now (c .entry)) (now (d .entry))) r (now (d .exit)) ⌝ }
 {
-    let told = judge(c, RECEIVED, 456, d.len(), 260, 0);
+    let told = judge(c, bits::RECEIVED, 456, d.len(), 260, 0);
     match told {
         Told::Done => speech::receive(c, d),
         Told::Refused(why) => Heard::Refused(why),
@@ -140,7 +135,7 @@ pub fn receive_control(c: &[u8], d: &mut [u8]) -> Heard
 pub fn receive_sacch(e: &[u8], d: &mut [u8]) -> Heard
     ensures { λ r. ⌜ Meets (sacchReceived (now (e .entry)) (now (d .entry))) r (now (d .exit)) ⌝ }
 {
-    let told = judge(e, RECEIVED, 464, d.len(), 184, 0);
+    let told = judge(e, bits::RECEIVED, 464, d.len(), 184, 0);
     match told {
         Told::Done => sacch::receive(e, d),
         Told::Refused(why) => Heard::Refused(why),
@@ -171,7 +166,7 @@ pub fn view_trellis(r: &[u8]) -> View
     if r.len() > 2 * VIEWED {
         return unseen(Refusal::Length);
     }
-    if !bits::none_over(r, RECEIVED) {
+    if !bits::none_over(r, bits::RECEIVED) {
         return unseen(Refusal::NotBits);
     }
     View {

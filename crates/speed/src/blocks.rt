@@ -39,7 +39,7 @@ fn of_heard(heard: Heard) -> u32 {
 
 // What the last call told, where it left bits.
 pub fn seen(told: u32, left: &[u8]) -> u32 {
-    if bits::none_over(left, 1) {
+    if bits::none_over(left, bits::SENT) {
         told
     } else {
         65535

@@ -37,7 +37,7 @@ fn judge_take(e: &[u8], out: usize, next: BurstNumber, b: BurstNumber) -> Told
     if out != 260 {
         return Told::Refused(Refusal::Length);
     }
-    if !bits::none_over(e, 2) {
+    if !bits::none_over(e, bits::RECEIVED) {
         return Told::Refused(Refusal::NotBits);
     }
     if next.0 >= 65536 {

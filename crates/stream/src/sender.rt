@@ -47,7 +47,7 @@ fn judge_send(d: &[u8], out: usize, ended: bool, sent: BlockNumber) -> Told
     if out != 464 {
         return Told::Refused(Refusal::Length);
     }
-    if !bits::none_over(d, 1) {
+    if !bits::none_over(d, bits::SENT) {
         return Told::Refused(Refusal::NotBits);
     }
     if ended {
