@@ -1,7 +1,16 @@
-# 01's handbook examples that are run and not proved, that of the flags as 02 has it (M-101), what 02 says of missing bits (M-102), and what the
-# table of refusals says of a lent buffer, as kit lines: LINE => ANSWER, the answers typed from the papers. Sourced, by POSIX sh.
+# 01's handbook examples that are run and not proved, that of the flags as 02 has it (M-101), what 02 says of missing bits (M-102) and of enhanced
+# full rate (M-103), and what the table of refusals says of a lent buffer, as kit lines: LINE => ANSWER, the answers typed from the papers. Sourced,
+# by POSIX sh.
 
 sevens() { zeros "$1" | tr 0 7; } # COUNT
+
+# So many bits, of which those at the places are 1; the first place is 0.
+ones_at() { # COUNT PLACE...
+    awk 'BEGIN {
+        for (i = 2; i < ARGC; i++) is_one[ARGV[i]] = 1
+        for (k = 0; k < ARGV[1]; k++) printf "%d", (k in is_one) ? 1 : 0
+    }' "$@"
+}
 
 handbook() {
     say "speech? $(zeros 456) => refused 8 0"
@@ -81,6 +90,36 @@ lent_buffers() {
     say "lend 260 7 take 7 $(zeros 116) => refused 9 0 $(sevens 260)"
     say "lend 260 7 take 8 $(zeros 116) => waiting $(sevens 260)"
     say "lend 600 7 fresh => ?"
+}
+
+# Enhanced full rate: 244 zeros have a CRC of zeros, and are sent as speech of zeros is, with the parity 111 in u(91), u(92), u(93). The pairs of
+# u(25), which is d(50), w(1) and s(1), make the CRC bad and leave the parity.
+efr_lines() {
+    parity='182 183 184 186 188 194 195'
+    pairs='50 51 53 56 57 58 59'
+    say "efr $(zeros 244) => $(ones_at 456 $parity)"
+    say "efr? $(ones_at 456 $parity) => 0 $(zeros 244)"
+    say "efr? $(ones_at 456 $pairs $parity) => refused 10 0"
+    say "speech? $(ones_at 456 $pairs $parity) => 0 $(ones_at 260 50)"
+    # with four of the seven ones that block is three bits away, nearer than the zeros; with three the zeros are
+    say "efr? $(ones_at 456 56 57 58 59 $parity) => refused 10 3"
+    say "efr? $(ones_at 456 50 51 53 $parity) => 3 $(zeros 244)"
+    # with a bad parity the CRC is not asked
+    for bits in "$(zeros 456)" "$(twos 456)" "$(ones_at 456 $pairs)"; do say "efr? $bits => refused 8 0"; done
+    # c(378), c(379), c(380) are w(70), w(72), w(73), and s(70) is read from the first of them
+    say "efr? $(ones_at 456 $parity 378) => 0 $(ones_at 244 69)"
+    say "efr? $(ones_at 456 $parity 379 380) => 0 $(zeros 244)"
+    say "efr? $(ones_at 456 $parity | sed 's/0\{78\}$//')$(twos 78) => 0 $(zeros 244)"
+    for bits in '' 2 "$(zeros 243)" "$(zeros 245)" "$(zeros 260)"; do say "efr $bits => refused 1"; done
+    for bits in '' 3 "$(zeros 244)" "$(zeros 455)" "$(zeros 457)"; do say "efr? $bits => refused 1"; done
+    say "efr $(zeros 243)2 => refused 2"
+    say "efr? $(zeros 455)3 => refused 2"
+    say "lend 456 7 efr $(zeros 244) => done $(ones_at 456 $parity)"
+    say "lend 244 7 efr? $(ones_at 456 $parity) => 0 $(zeros 244)"
+    say "lend 244 7 efr? $(ones_at 456 $pairs $parity) => refused 10 0 $(sevens 244)"
+    say "lend 244 7 efr? $(zeros 456) => refused 8 0 $(sevens 244)"
+    say "lend 260 7 efr? $(ones_at 456 $pairs $parity) => refused 1 $(sevens 260)"
+    say "send $(zeros 244) => refused 1"
 }
 
 # The bursts of a stream of one block.

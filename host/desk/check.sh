@@ -38,12 +38,12 @@ as_text() { # plain|Windows
     esac
 }
 
-# Made lines; of the five verbs two are the desk's, so that a third of the lines at least must be left.
+# Made lines; of the six verbs two are the desk's, so that a quarter of the lines at least must be left.
 compare_desk() { # DESK REFERENCE ROOM MAKER SEED COUNT plain|Windows
     "$2" "$4" "$5" "$6" | read_alike "$2" "$3" >"$3/lines"
     as_text "$7" <"$3/lines" >"$3/text"
     left=$(wc -l <"$3/lines")
-    if [ "$left" -gt $(($6 / 3)) ] && answers_alike "$1" "$2" "$3" "$3/text" "$3/lines"; then
+    if [ "$left" -gt $(($6 / 4)) ] && answers_alike "$1" "$2" "$3" "$3/text" "$3/lines"; then
         good "desk and the reference on $left lines of $4, seed $5, as a $7 text"
     else
         bad "desk and the reference differ on $left lines of $4, seed $5, as a $7 text"

@@ -86,7 +86,7 @@ static inline uint32_t desk_count(uint32_t answer)
 
 /*
  * The reason of a number in words, those of the table of refusals in README.md; never null. It knows the numbers of the streams too,
- * 4 to 7 and 9, which the calls below never give and the kit does.
+ * 4 to 7 and 9, and 10, of enhanced full rate, which the calls below never give and the kit does.
  */
 static inline const char *desk_reason(uint32_t number)
 {
@@ -111,6 +111,8 @@ static inline const char *desk_reason(uint32_t number)
         return "the parity is bad";
     case 9:
         return "as many flags are 1 as are 0, and the parity is bad as FACCH and as speech";
+    case 10:
+        return "the parity of enhanced full rate is good and its CRC is bad";
     default:
         return "no refusal has this number";
     }

@@ -1,8 +1,9 @@
 //! The values of the table of examples, each worked out by the model: one line for each row.
 
 use crate::model::bits::{bits_of, ones, ones_at};
-use crate::model::channel::{Channel, ACCESS, CONTROL, NO_IDENTITY, SCH, SPEECH};
+use crate::model::channel::{Channel, ACCESS, CONTROL, EFR, NO_IDENTITY, SCH, SPEECH};
 use crate::model::decoding::nearest;
+use crate::model::efr;
 use crate::model::exhaustive::Pairs;
 use crate::model::missing::MISSING;
 use crate::model::polynomial::parity;
@@ -35,6 +36,8 @@ fn rows() -> Vec<Vec<usize>> {
     rows.push(ones_on_bursts());
     rows.push(flags_of_a_stream());
     rows.extend(of_both_kinds());
+    rows.push(ones_of_efr());
+    rows.push(crc_of_efr());
     rows
 }
 
@@ -157,16 +160,33 @@ fn flags_of_a_stream() -> Vec<usize> {
 }
 
 /// So many bits, of which those at the given places are 1.
-fn ones_alone(n: usize, places: [usize; 2]) -> Vec<u8> {
+fn ones_alone(n: usize, places: &[usize]) -> Vec<u8> {
     (0..n).map(|k| u8::from(places.contains(&k))).collect()
 }
 
 /// Where the ones of the coded bits stand, for a FACCH with ones at d(0) and d(4), and for a speech
 /// block with the same bits of u under its parity, d(0) and d(8), and the FACCH's last 78 bits.
 fn of_both_kinds() -> [Vec<usize>; 2] {
-    let facch = sent(&CONTROL, NO_IDENTITY, &ones_alone(184, [0, 4]));
-    let d = [&ones_alone(182, [0, 8]), &facch[378..]].concat();
+    let facch = sent(&CONTROL, NO_IDENTITY, &ones_alone(184, &[0, 4]));
+    let d = [&ones_alone(182, &[0, 8]), &facch[378..]].concat();
     [ones_at(&facch), ones_at(&sent(&SPEECH, NO_IDENTITY, &d))]
+}
+
+/// The 244 bits of enhanced full rate, which count from 1, with ones at the given numbers.
+fn efr_block(numbers: &[usize]) -> Vec<u8> {
+    let places: Vec<usize> = numbers.iter().map(|number| number - 1).collect();
+    ones_alone(244, &places)
+}
+
+/// Where the ones of the coded bits stand, for the block of enhanced full rate with ones at s(1),
+/// which is under the CRC, at s(70), which is repeated, and at s(244), the last one.
+fn ones_of_efr() -> Vec<usize> {
+    ones_at(&sent(&EFR, NO_IDENTITY, &efr_block(&[1, 70, 244])))
+}
+
+/// The CRC of the block of enhanced full rate with a one at s(39) alone, which is b(1).
+fn crc_of_efr() -> Vec<usize> {
+    numbers(&efr::crc_bits(&efr_block(&[39])))
 }
 
 #[cfg(test)]
@@ -174,19 +194,21 @@ mod tests {
     use super::*;
     use crate::model::coding::convolve;
     use crate::model::missing::disagrees;
+    use crate::model::polynomial::{from_powers, remainder};
 
     #[test]
-    fn there_are_seventeen_rows() {
+    fn there_are_nineteen_rows() {
         let lengths: Vec<usize> = rows().iter().map(|row| row.len()).collect();
         assert_eq!(lengths[..3], [40, 10, 36]);
         assert_eq!(lengths[9..13], [25; 4]);
-        assert_eq!(lengths[14..], [24, 48, 48]);
+        assert_eq!(lengths[14..17], [24, 48, 48]);
+        assert_eq!(lengths[18..], [8]);
     }
 
     #[test]
     fn numbers_are_parted_by_single_spaces() {
         assert_eq!(line(&[1, 0, 182]), "1 0 182");
-        assert_eq!(lines().len(), 17);
+        assert_eq!(lines().len(), 19);
     }
 
     #[test]
@@ -280,5 +302,25 @@ mod tests {
             let (count, d) = channel.decode(NO_IDENTITY, &c, channel.reads).unwrap();
             assert_eq!((count, d[0], d[1]), (0, 1, 0), "{}", channel.name);
         }
+    }
+
+    #[test]
+    fn the_block_of_enhanced_full_rate_comes_back() {
+        let ones = ones_of_efr();
+        // s(70) stands there three times, and is of class 2.
+        let class_2: Vec<usize> = ones.iter().copied().filter(|&k| k >= 378).collect();
+        assert_eq!(class_2, [378, 379, 380]);
+        let c = ones_alone(456, &ones);
+        let s = efr_block(&[1, 70, 244]);
+        assert_eq!((s[0], s[69], s[243]), (1, 1, 1));
+        assert_eq!(EFR.decode(NO_IDENTITY, &c, EFR.reads), Ok((0, s)));
+    }
+
+    #[test]
+    fn the_crc_of_the_first_bit_is_what_is_left_of_its_power() {
+        let mut rest = remainder(&from_powers(&[72]), &from_powers(&[8, 4, 3, 2, 0]));
+        // p(1) has the highest power.
+        rest.reverse();
+        assert_eq!(crc_of_efr(), numbers(&rest));
     }
 }

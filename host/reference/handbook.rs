@@ -72,7 +72,8 @@ mod tests {
     #[test]
     fn the_words_stand_in_their_order() {
         let words = words().join(" ");
-        let expected = "speech control sacch access sch speech? control? sacch? access? sch? \
+        let expected = "speech control sacch access sch efr \
+            speech? control? sacch? access? sch? efr? \
             send end take totals fresh lend trellis help why";
         assert_eq!(words, expected);
     }
@@ -95,6 +96,11 @@ mod tests {
         let asked = "sch? R: of 78 received bits, 2 for a missing one, \
                      COUNT and the 25 bits of the nearest block";
         assert_eq!(help(b"sch?").as_deref(), Some(asked));
+        let efr = "efr D: the 456 coded bits of the 244 bits D of enhanced full rate";
+        assert_eq!(help(b"efr").as_deref(), Some(efr));
+        let asked = "efr? R: of 456 received bits, 2 for a missing one, COUNT and \
+                     the 244 bits of enhanced full rate of the nearest block";
+        assert_eq!(help(b"efr?").as_deref(), Some(asked));
         let fresh = "fresh: fresh; both streams begin anew";
         assert_eq!(help(b"fresh").as_deref(), Some(fresh));
     }
@@ -109,8 +115,8 @@ mod tests {
     }
 
     #[test]
-    fn the_nine_refusals_are_told_in_words() {
-        let told: Vec<String> = (1..=9).map(|refusal| why(refusal).unwrap()).collect();
+    fn the_ten_refusals_are_told_in_words() {
+        let told: Vec<String> = (1..=10).map(|refusal| why(refusal).unwrap()).collect();
         let expected = [
             "a buffer has the wrong length",
             "a bit is neither 0 nor 1, nor 2 for missing on reception",
@@ -121,10 +127,11 @@ mod tests {
             "the stream has ended",
             "the parity is bad",
             "as many flags are 1 as are 0, and the parity is bad as FACCH and as speech",
+            "the parity of enhanced full rate is good and its CRC is bad",
         ];
         assert_eq!(told, expected);
-        assert_eq!(refusals().len(), 9);
-        for number in [0, 10, 11, 19, 90, 257, 65_535] {
+        assert_eq!(refusals().len(), 10);
+        for number in [0, 11, 19, 90, 100, 257, 65_535] {
             assert_eq!(why(number), None, "{}", number);
         }
     }

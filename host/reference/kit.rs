@@ -323,7 +323,14 @@ mod tests {
 
     #[test]
     fn lines_of_1000_bytes_are_read_and_those_of_1001_are_not() {
-        for words in ["speech ", "control? ", "trellis ", "send ", "take 0 "] {
+        for words in [
+            "speech ",
+            "control? ",
+            "efr? ",
+            "trellis ",
+            "send ",
+            "take 0 ",
+        ] {
             let room = 1000 - words.len();
             let read = format!("{}{{0*{}}}", words, room);
             let unread = format!("{}{{0*{}}}", words, room + 1);
@@ -435,11 +442,13 @@ mod tests {
             ("control? {2*456}", "refused 8 0"),
             ("sacch? {2*464}", "refused 8 0"),
             ("sch? {2*78}", "refused 8 0"),
+            ("efr? {2*456}", "refused 8 0"),
             ("access 63 {0*7}2", "refused 2"),
             ("sch {0*24}2", "refused 2"),
             ("speech {2*260}", "refused 2"),
             ("control {0*183}2", "refused 2"),
             ("sacch 2{0*183}", "refused 2"),
+            ("efr {0*243}2", "refused 2"),
             ("send {0*183}2", "refused 2"),
             ("send 2{0*259}", "refused 2"),
         ]);
@@ -467,6 +476,131 @@ mod tests {
                 "refused 8 0",
             ),
         ]);
+    }
+
+    /// What is sent for 244 zeros of enhanced full rate: those of speech, whose parity is 111.
+    const EFR_OF_ZEROS: &str = "{0*182}11101010000011{0*260}";
+
+    /// The same with the pairs of u(25) more, which is d(50) and s(1): the parity is good and the CRC
+    /// is bad.
+    const EFR_WITH_BAD_CRC: &str = "{0*50}1101001111{0*122}11101010000011{0*260}";
+
+    /// Each call, a word and bits, has its answer.
+    fn efr_answered(calls: &[(&str, &str, &str)]) {
+        for (word, bits, expected) in calls {
+            answered(&[(&format!("{} {}", word, bits), expected)]);
+        }
+    }
+
+    #[test]
+    fn enhanced_full_rate_of_zeros_is_sent_and_received() {
+        efr_answered(&[
+            ("efr", "{0*244}", EFR_OF_ZEROS),
+            ("efr?", EFR_OF_ZEROS, "0 {0*244}"),
+            // Three bits are altered, then six are missing.
+            ("efr?", "111{0*179}11101010000011{0*260}", "3 {0*244}"),
+            ("efr?", "{0*182}22202020000012{0*260}", "0 {0*244}"),
+            // Of class 2, a repeated bit and then its two others.
+            (
+                "efr?",
+                "{0*182}11101010000011{0*182}1{0*77}",
+                "0 {0*69}1{0*174}",
+            ),
+            ("efr?", "{0*182}11101010000011{0*183}11{0*75}", "0 {0*244}"),
+            ("efr?", "{0*182}11101010000011{0*182}{2*78}", "0 {0*244}"),
+        ]);
+    }
+
+    #[test]
+    fn a_bad_crc_is_refused_behind_a_bad_parity() {
+        efr_answered(&[
+            ("efr?", EFR_WITH_BAD_CRC, "refused 10 0"),
+            ("efr?", "{0*456}", "refused 8 0"),
+            // Both are bad.
+            ("efr?", "{0*50}1101001111{0*396}", "refused 8 0"),
+            // Three and four bits altered of a good block.
+            (
+                "efr?",
+                "{0*50}1101{0*128}11101010000011{0*260}",
+                "3 {0*244}",
+            ),
+            (
+                "efr?",
+                "{0*50}1101001{0*125}11101010000011{0*260}",
+                "refused 10 3",
+            ),
+            // To full rate the same block is good.
+            ("speech?", EFR_WITH_BAD_CRC, "0 {0*50}1{0*209}"),
+        ]);
+    }
+
+    #[test]
+    fn enhanced_full_rate_has_its_lengths_and_then_its_bytes() {
+        efr_answered(&[
+            ("efr", "", "refused 1"),
+            ("efr", "{0*243}", "refused 1"),
+            ("efr", "{3*245}", "refused 1"),
+            ("efr", "{0*260}", "refused 1"),
+            ("efr", "{0*456}", "refused 1"),
+            ("efr", "{0*243}2", "refused 2"),
+            ("efr", "x{0*243}", "refused 2"),
+            ("efr?", "", "refused 1"),
+            ("efr?", "{0*244}", "refused 1"),
+            ("efr?", "{0*455}", "refused 1"),
+            ("efr?", "{3*457}", "refused 1"),
+            ("efr?", "{0*455}3", "refused 2"),
+            ("efr?", "x{0*455}", "refused 2"),
+        ]);
+    }
+
+    #[test]
+    fn enhanced_full_rate_writes_to_a_lent_buffer_or_leaves_it() {
+        let done = format!("done {}", EFR_OF_ZEROS);
+        efr_answered(&[
+            ("lend 456 7 efr", "{0*244}", &done),
+            ("lend 244 7 efr?", EFR_OF_ZEROS, "0 {0*244}"),
+            ("lend 244 7 efr?", EFR_WITH_BAD_CRC, "refused 10 0 {7*244}"),
+            ("lend 244 7 efr?", "{0*456}", "refused 8 0 {7*244}"),
+            ("lend 244 7 efr?", "{3*456}", "refused 2 {7*244}"),
+            ("lend 456 7 efr", "{2*244}", "refused 2 {7*456}"),
+            ("lend 244 7 efr", "{0*244}", "refused 1 {7*244}"),
+            ("lend 260 7 efr?", EFR_OF_ZEROS, "refused 1 {7*260}"),
+            ("lend 243 7 efr?", EFR_WITH_BAD_CRC, "refused 1 {7*243}"),
+        ]);
+    }
+
+    #[test]
+    fn enhanced_full_rate_has_one_argument_and_two_words() {
+        not_understood(&["efr", "efr?", "efr  ", "efr?  ", " efr {0*244}"]);
+        not_understood(&["efr {0*244} ", "efr  {0*244}", "efr {0*244} {0*244}"]);
+        not_understood(&["efr 7 {0*244}", "efr? 7 {0*456}", "efr\t{0*244}"]);
+        not_understood(&["lend 456 7 efr", "lend 244 7 efr?", "lend 244 efr? 0"]);
+        for word in [
+            "Efr", "EFR", "ef", "fr", "efrs", "eefr", "efs", "e", "efr??", "?efr", "efr ?", "e fr",
+        ] {
+            not_understood(&[&format!("{} {{0*244}}", word)]);
+        }
+    }
+
+    #[test]
+    fn streams_keep_full_rate() {
+        let (send, first, second) = ("send {1*260}", "take 0 {0*116}", "take 1 {0*116}");
+        let alone = answers_to(&[send, first, second, "end"]);
+        let bad_crc = format!("efr? {}", EFR_WITH_BAD_CRC);
+        let between = answers_to(&[
+            "efr {1*244}",
+            send,
+            &bad_crc,
+            first,
+            "send {0*244}",
+            "efr? {0*456}",
+            second,
+            "lend 456 7 efr {1*244}",
+            "end",
+        ]);
+        assert_eq!(between[4], "refused 1");
+        let kept = [1, 3, 6, 8].map(|k| between[k].clone());
+        assert_eq!(kept[..], alone[..]);
     }
 
     #[test]
@@ -901,12 +1035,16 @@ mod tests {
                 "why 00009",
                 "as many flags are 1 as are 0, and the parity is bad as FACCH and as speech",
             ),
+            (
+                "why 10",
+                "the parity of enhanced full rate is good and its CRC is bad",
+            ),
         ]);
     }
 
     #[test]
     fn why_has_the_number_of_a_refusal() {
-        not_understood(&["why", "why ", "why  ", "why 0", "why 00000", "why 10"]);
+        not_understood(&["why", "why ", "why  ", "why 0", "why 00000", "why 11"]);
         not_understood(&["why 259", "why 65535", "why 65536", "why 65539"]);
         not_understood(&["why 000003", "why x", "why -1", "why 3.", "why end"]);
         not_understood(&["why 3 3", "why 3 ", "why  3", " why 3", "why\t3"]);

@@ -15,15 +15,16 @@
 //! reference make-totals SEED COUNT     prints COUNT kit lines, many of which ask for the totals
 //! reference make-ties SEED COUNT       prints COUNT kit lines of lessons in which most blocks tie
 //! reference make-missing SEED COUNT    prints COUNT kit lines of lessons in which bits are missing
+//! reference make-efr SEED COUNT        prints COUNT kit lines of enhanced full rate
 //! reference make-windows SEED COUNT    prints COUNT kit lines as a text from Windows has them
 //! reference make-full SEED             prints the kit lines of one stream of 16,383 blocks
 //! reference make-sheet SEED COUNT      prints COUNT access sheet lines
 //!
 //! What the papers define stands in model/, what chance gives in chance/, what makes lines in
 //! makers/. A channel is a row of the table in model/channel.rs, and its formulas stand in
-//! model/coding.rs and model/receiving.rs; a refusal is a row of model/refusal.rs, a verb a row in
-//! kit.rs, an example a row in examples.rs, a mode that makes lines a row of makers/mod.rs. What is
-//! said of a verb or of a refusal is a row of README.
+//! model/coding.rs and model/receiving.rs, those of enhanced full rate in model/efr.rs; a refusal is
+//! a row of model/refusal.rs, a verb a row in kit.rs, an example a row in examples.rs, a mode that
+//! makes lines a row of makers/mod.rs. What is said of a verb or of a refusal is a row of README.
 
 // Loops keep the index k of the standard, so that each reads like its formula.
 #![allow(clippy::needless_range_loop, clippy::manual_memcpy)]
@@ -146,7 +147,7 @@ mod tests {
     }
 
     #[test]
-    fn the_sixteen_commands_are_known() {
+    fn the_seventeen_commands_are_known() {
         assert!(matches!(task_of("answer"), Some(Task::Answer)));
         assert!(matches!(task_of("sheet"), Some(Task::Sheet)));
         assert!(matches!(task_of("examples"), Some(Task::Examples)));
@@ -160,6 +161,7 @@ mod tests {
         makes("make-totals 10 1000", "make-totals", 10, 1000);
         makes("make-ties 11 1100", "make-ties", 11, 1100);
         makes("make-missing 12 1200", "make-missing", 12, 1200);
+        makes("make-efr 13 1300", "make-efr", 13, 1300);
         makes("make-windows 0 900", "make-windows", 0, 900);
         makes("make-full 3", "make-full", 3, 0);
         makes("make-sheet 8 200", "make-sheet", 8, 200);
@@ -171,7 +173,8 @@ mod tests {
             make-received SEED COUNT | make-views SEED COUNT | make-lessons SEED COUNT | \
             make-stream SEED BLOCKS | make-lend SEED COUNT | make-help SEED COUNT | \
             make-totals SEED COUNT | make-ties SEED COUNT | make-missing SEED COUNT | \
-            make-windows SEED COUNT | make-full SEED | make-sheet SEED COUNT";
+            make-efr SEED COUNT | make-windows SEED COUNT | make-full SEED | \
+            make-sheet SEED COUNT";
         assert_eq!(usage(), words);
     }
 
@@ -202,6 +205,10 @@ mod tests {
             "make-missing",
             "make-missing 7",
             "make-missed 7 1",
+            "make-efr",
+            "make-efr 7",
+            "make-efr? 7 1",
+            "efr",
             "make-windows 7 x",
             "make-window 7 1",
             "help",

@@ -124,6 +124,8 @@ mod tests {
         let bad_parity = Refusal::BadParity { count: 12 };
         assert_eq!(refused(bad_parity, None), "refused 8 12");
         assert_eq!(refused(bad_parity, Some(7)), "refused 8 7 12");
+        let bad_crc = Refusal::BadCrc { count: 12 };
+        assert_eq!(refused(bad_crc, None), "refused 10 12");
         assert_eq!(sent(Err(Refusal::Ended)).plain(), "refused 7");
     }
 

@@ -14,10 +14,13 @@
 enum {
     BURST = 116,
     SPEECH_BYTES = 33,
-    SIGNATURE = 0xd, /* what speech begins with; the others do not mind it */
-    IDENTITY = 7,    /* of the base station, for access */
-    NET_ORDER = 1,   /* the order of speech in a packet */
-    FULL_RATE = 0    /* and not enhanced full rate */
+    ENHANCED_BYTES = 31,  /* the length tells the encoding of enhanced full rate from that of full rate */
+    SIGNATURE = 0xd,      /* what speech begins with; the others do not mind it */
+    ENHANCED_SIGNATURE = 0xc,
+    IDENTITY = 7,         /* of the base station, for access */
+    NET_ORDER = 1,        /* the order of speech in a packet */
+    FULL_RATE = 0,
+    ENHANCED_FULL_RATE = 1
 };
 
 static uint8_t data[SPEECH_BYTES];
@@ -37,6 +40,16 @@ static void encode_speech(void)
 static void decode_speech(void)
 {
     gsm0503_tch_fr_decode(decoded, received, NET_ORDER, FULL_RATE, &disagreements, &protected_bits);
+}
+
+static void encode_enhanced(void)
+{
+    gsm0503_tch_fr_encode(sent, data, ENHANCED_BYTES, NET_ORDER);
+}
+
+static void decode_enhanced(void)
+{
+    gsm0503_tch_fr_decode(decoded, received, NET_ORDER, ENHANCED_FULL_RATE, &disagreements, &protected_bits);
 }
 
 static void encode_control(void)
@@ -69,26 +82,28 @@ static void decode_sch(void)
     gsm0503_sch_decode(decoded, received);
 }
 
-/* A way of coding: the names of its two directions, how many bits it reads and writes, and its two calls. */
+/* A way of coding: the names of its two directions, how many bits it reads and writes, what they begin with, and its two calls. */
 struct coding {
     const char *encode_name;
     const char *decode_name;
     unsigned reads;
     unsigned writes;
+    unsigned signature;
     void (*encode)(void);
     void (*decode)(void);
 };
 
 static const struct coding codings[] = {
-    {"speech-encode", "speech-decode", 8 * SPEECH_BYTES, 8 * BURST, encode_speech, decode_speech},
-    {"control-encode", "control-decode", 184, 4 * BURST, encode_control, decode_control},
-    {"sacch-encode", "sacch-decode", 184, 4 * BURST, encode_control, decode_control},
-    {"access-encode", "access-decode", 8, 36, encode_access, decode_access},
-    {"sch-encode", "sch-decode", 25, 78, encode_sch, decode_sch},
+    {"speech-encode", "speech-decode", 8 * SPEECH_BYTES, 8 * BURST, SIGNATURE, encode_speech, decode_speech},
+    {"control-encode", "control-decode", 184, 4 * BURST, SIGNATURE, encode_control, decode_control},
+    {"sacch-encode", "sacch-decode", 184, 4 * BURST, SIGNATURE, encode_control, decode_control},
+    {"access-encode", "access-decode", 8, 36, SIGNATURE, encode_access, decode_access},
+    {"sch-encode", "sch-decode", 25, 78, SIGNATURE, encode_sch, decode_sch},
+    {"efr-encode", "efr-decode", 8 * ENHANCED_BYTES, 8 * BURST, ENHANCED_SIGNATURE, encode_enhanced, decode_enhanced},
 };
 
 /* Bits in no order that the coding knows. */
-static void fill(unsigned bits)
+static void fill(unsigned bits, unsigned signature)
 {
     uint32_t x = 1;
 
@@ -96,7 +111,7 @@ static void fill(unsigned bits)
         x = x * 75 % 65537;
         data[k / 8] |= (uint8_t)(x % 2 << k % 8);
     }
-    data[0] = (uint8_t)(SIGNATURE << 4 | (data[0] & 0xf));
+    data[0] = (uint8_t)(signature << 4 | (data[0] & 0xf));
 }
 
 static void repeat(void (*call)(void), unsigned long calls)
@@ -109,7 +124,7 @@ static void repeat(void (*call)(void), unsigned long calls)
 /* Whether the data comes back. */
 static bool comes_back(const struct coding *coding, unsigned long encodes, unsigned long decodes)
 {
-    fill(coding->reads);
+    fill(coding->reads, coding->signature);
     repeat(coding->encode, encodes);
     osmo_ubit2sbit(received, sent, coding->writes); /* 0 as +127, 1 as -127 */
     repeat(coding->decode, decodes);

@@ -23,6 +23,8 @@ pub enum Refusal {
     Parity,
     // 9: as many of a block's flags are 1 as are 0, and its parity is bad as FACCH and as speech (02, M-101 and M-102)
     Flags,
+    // 10: the three-bit parity of an enhanced full rate block is good and its CRC is bad (02, M-103)
+    Crc,
 }
 
 // What is said of a send, or of the end of a stream.
@@ -54,6 +56,7 @@ pub fn number(r: Refusal) -> u8
         Refusal::Ended => 7,
         Refusal::Parity => 8,
         Refusal::Flags => 9,
+        Refusal::Crc => 10,
     }
 }
 

@@ -132,9 +132,9 @@ fn answer(streams: Streams, asks: Asks, number: u16, read: &[u8], written: &mut 
             }
         }
         Asks::Receive(channel) => {
-            let heard = receive(channel, number, read, written);
+            let returned = receive(channel, number, read, written);
             Said {
-                answer: Answer::of_returned(answers::of_heard(heard), written.len()),
+                answer: Answer::of_returned(returned, written.len()),
                 streams,
             }
         }

@@ -3,7 +3,7 @@ use mathlib.Core.List.{List, [], _∷_, _++_, map}
 use Prim.Native.Nat.{ℕ, zero, suc, _+_, _-_, _%_}
 use lib.Dec.{eqb}
 use lib.ListN.{length}
-use Rattle.bits.specs.Bits.{pick, tab, add, ones}
+use Rattle.bits.specs.Bits.{pick, tab, add, ones, zeros}
 
 -- A polynomial is the list of its powers of D. The coefficient of D^e: how often e stands there, modulo 2.
 unfoldable pub occurs : ℕ → List ℕ → ℕ
@@ -34,6 +34,10 @@ accessG = lower 6 (6 ∷ 5 ∷ 3 ∷ 2 ∷ 1 ∷ 0 ∷ [])
 unfoldable pub schG : List ℕ
 schG = lower 10 (10 ∷ 8 ∷ 6 ∷ 5 ∷ 4 ∷ 2 ∷ 0 ∷ [])
 
+-- 02, M-103; 000, 3.1.1.1: D^8 + D^4 + D^3 + D^2 + 1
+unfoldable pub efrG : List ℕ
+efrG = lower 8 (8 ∷ 4 ∷ 3 ∷ 2 ∷ 0 ∷ [])
+
 -- Division as on paper: n times the leading bit is struck out, and where it is 1 the generator g is added to the bits below it.
 unfoldable pub divide : List ℕ → ℕ → List ℕ → List ℕ
 divide g zero w = w
@@ -48,3 +52,7 @@ remainder g w = divide g (length w - length g) w
 -- 01, Coding rules: the parity bits that, put after d, make the remainder all ones. There is exactly one such list: laws/Division, parity-leaves and parity-only.
 unfoldable pub parity : List ℕ → List ℕ → List ℕ
 parity g d = remainder g (d ++ ones (length g))
+
+-- 02, M-103; 000, 3.1.1.1: the bits that, put after b, make the remainder 0. There is exactly one such list: laws/Division, crc-leaves and crc-only.
+unfoldable pub crc : List ℕ → List ℕ → List ℕ
+crc g b = remainder g (b ++ zeros (length g))

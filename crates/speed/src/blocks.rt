@@ -16,7 +16,7 @@ pub fn fill(d: &mut [u8]) {
 }
 
 // The other bit in its place.
-fn turn(d: &mut [u8], i: usize)
+pub fn turn(d: &mut [u8], i: usize)
     requires { ⌜ i < length (now d) ⌝ }
 {
     d[i] = 1 - d[i] % 2;

@@ -1,6 +1,7 @@
 // What host/speed counts: a line names an entry, and how many times it is called, up to 9; of the takes, how many bursts, up to 8. The number
 // that the last call told is written; what an entry must tell is tested elsewhere.
 mod blocks;
+mod enhanced;
 mod streams;
 
 use text::Span;
@@ -85,6 +86,12 @@ fn call_block(name: &[u8], calls: u8) -> u32 {
     }
     if same(name, b"sch-decode") {
         return blocks::sch(false, calls);
+    }
+    if same(name, b"efr-encode") {
+        return enhanced::encode(calls);
+    }
+    if same(name, b"efr-decode") {
+        return enhanced::decode(calls);
     }
     65535
 }

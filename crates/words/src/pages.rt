@@ -3,26 +3,28 @@ ghost use mathlib.Core.Path.{_≡_};
 ghost use lib.ListN.{length};
 
 // How many words there are.
-pub const WORDS: usize = 19;
+pub const WORDS: usize = 21;
 
 // How many refusals there are.
-pub const REFUSALS: usize = 9;
+pub const REFUSALS: usize = 10;
 
 // The words.
-const ALL: [u8; 117] =
-    *b"speech control sacch access sch speech? control? sacch? access? sch? send end take totals fresh lend trellis help why";
+const ALL: [u8; 126] =
+    *b"speech control sacch access sch efr speech? control? sacch? access? sch? efr? send end take totals fresh lend trellis help why";
 
 // A line for each word, in the same order: what stands after it, and what it answers.
-const HELP: [u8; 1752] = *b"speech D: the 456 coded bits of the 260 bits D
+const HELP: [u8; 1935] = *b"speech D: the 456 coded bits of the 260 bits D
 control D: the 456 coded bits of the 184 bits D
 sacch D: the 464 bits of four bursts that carry the 184 bits D
 access ID D: the 36 bits of an access burst that carries the 8 bits D, for the identity ID
 sch D: the 78 bits of SCH that carry the 25 bits D
+efr D: the 456 coded bits of the 244 bits D of enhanced full rate
 speech? R: of 456 received bits, 2 for a missing one, COUNT and the 260 bits of the nearest block; it disagrees in COUNT places
 control? R: of 456 received bits, 2 for a missing one, COUNT and the 184 bits of the nearest block
 sacch? R: of 464 received bits, 2 for a missing one, COUNT and the 184 bits of the nearest block
 access? ID R: of 36 received bits, 2 for a missing one, COUNT and the 8 bits of the nearest block, as the bench with the identity ID hears it
 sch? R: of 78 received bits, 2 for a missing one, COUNT and the 25 bits of the nearest block
+efr? R: of 456 received bits, 2 for a missing one, COUNT and the 244 bits of enhanced full rate of the nearest block
 send D: the next four bursts of the stream, 464 bits, in which the block D begins: 260 bits are speech, 184 FACCH
 end: the last four bursts of the stream, 464 bits
 take B E: of the 116 bits E of burst B, 2 for a missing one: waiting, or the block N that it ends: speech N COUNT BITS, or facch N COUNT BITS
@@ -34,7 +36,7 @@ help WORD: what stands after WORD, and what it answers; help alone lists the wor
 why N: refusal N in words";
 
 // A line for each refusal, from 1 on.
-const REASONS: [u8; 353] = *b"a buffer has the wrong length
+const REASONS: [u8; 413] = *b"a buffer has the wrong length
 a bit is neither 0 nor 1, nor 2 for missing on reception
 the identity is over 63
 the burst is not the next one
@@ -42,22 +44,23 @@ the stream is full: 16383 blocks are sent, or burst 65535 is taken
 nothing was sent before the end
 the stream has ended
 the parity is bad
-as many flags are 1 as are 0, and the parity is bad as FACCH and as speech";
+as many flags are 1 as are 0, and the parity is bad as FACCH and as speech
+the parity of enhanced full rate is good and its CRC is bad";
 
-pub fn all_words() -> [u8; 117]
-    ensures { λ r. ⌜ 117 ≡ length r ⌝ }
+pub fn all_words() -> [u8; 126]
+    ensures { λ r. ⌜ 126 ≡ length r ⌝ }
 {
     ALL
 }
 
-pub fn help_page() -> [u8; 1752]
-    ensures { λ r. ⌜ 1752 ≡ length r ⌝ }
+pub fn help_page() -> [u8; 1935]
+    ensures { λ r. ⌜ 1935 ≡ length r ⌝ }
 {
     HELP
 }
 
-pub fn reasons_page() -> [u8; 353]
-    ensures { λ r. ⌜ 353 ≡ length r ⌝ }
+pub fn reasons_page() -> [u8; 413]
+    ensures { λ r. ⌜ 413 ≡ length r ⌝ }
 {
     REASONS
 }

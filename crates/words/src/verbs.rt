@@ -14,6 +14,7 @@ pub enum Channel {
     Sacch,
     Access,
     Sch,
+    Efr,
 }
 
 // What is asked of the streams.
@@ -37,7 +38,7 @@ pub enum Asks {
 // A row of the table, filled up with spaces.
 pub type Verb = [u8; 20];
 
-const ROWS: usize = 17;
+const ROWS: usize = 19;
 
 // Every verb: its word, how many bytes are written for it, and its arguments in order, n for a number and b for bits.
 // One that may have more arguments or fewer has a row for each: `trellis` alone views nothing.
@@ -47,11 +48,13 @@ const VERBS: [Verb; ROWS] = [
     *b"sacch 464 b         ",
     *b"access 36 nb        ",
     *b"sch 78 b            ",
+    *b"efr 456 b           ",
     *b"speech? 260 b       ",
     *b"control? 184 b      ",
     *b"sacch? 184 b        ",
     *b"access? 8 nb        ",
     *b"sch? 25 b           ",
+    *b"efr? 244 b          ",
     *b"trellis 0 b         ",
     *b"trellis 0           ",
     *b"send 464 b          ",
@@ -68,11 +71,13 @@ const ASKED: [Asks; ROWS] = [
     Asks::Send(Channel::Sacch),
     Asks::Send(Channel::Access),
     Asks::Send(Channel::Sch),
+    Asks::Send(Channel::Efr),
     Asks::Receive(Channel::Speech),
     Asks::Receive(Channel::Control),
     Asks::Receive(Channel::Sacch),
     Asks::Receive(Channel::Access),
     Asks::Receive(Channel::Sch),
+    Asks::Receive(Channel::Efr),
     Asks::View,
     Asks::View,
     Asks::Stream(Call::Send),

@@ -243,7 +243,7 @@ mod tests {
             let row = handbook::help(word.as_bytes()).unwrap();
             assert!(times(&answers, &row) > 10, "{}", word);
         }
-        for refusal in 1..=9 {
+        for refusal in 1..=10 {
             let words = handbook::why(refusal).unwrap();
             assert!(times(&answers, &words) > 10, "{}", refusal);
         }
@@ -252,7 +252,7 @@ mod tests {
 
     #[test]
     fn every_number_round_the_refusals_comes_and_the_highest() {
-        let lines = lines(&mut Random::new(144), 4000);
+        let lines = lines(&mut Random::new(144), 16_000);
         for number in (0..=12).chain([255, 256, 65_535, 65_536]) {
             let line = why(number.to_string().as_bytes());
             assert!(lines.contains(&line), "{}", number);

@@ -12,7 +12,7 @@ use crate::model::receiving_stream::LENT_TO_TAKE;
 const MOST_LENT: usize = 600;
 
 /// What the verbs write, and what else has a length.
-const LENGTHS: [usize; 10] = [456, 464, 36, 78, 260, 184, 8, 25, 116, 228];
+const LENGTHS: [usize; 11] = [456, 464, 36, 78, 260, 184, 8, 25, 244, 116, 228];
 
 /// So many lines: a lesson's lines, with fresh streams for each lesson, and others between them.
 pub fn lines(random: &mut Random, count: usize) -> Vec<Vec<u8>> {
@@ -46,7 +46,7 @@ fn between(random: &mut Random, next: &[u8]) -> Vec<u8> {
 }
 
 /// A line of the verbs that call no stream; more of them than elsewhere have a high identity.
-fn of_block(random: &mut Random) -> Vec<u8> {
+pub fn of_block(random: &mut Random) -> Vec<u8> {
     match random.below(20) {
         0 => sent_lines::high_identity(random),
         1 => received_lines::high_identity(random),
@@ -114,7 +114,7 @@ fn another_length(random: &mut Random, right: usize) -> usize {
 }
 
 /// What no line lends: a buffer of over 600 bytes, a length that is no number, or no digit.
-fn badly_lent(random: &mut Random, line: &[u8]) -> Vec<u8> {
+pub fn badly_lent(random: &mut Random, line: &[u8]) -> Vec<u8> {
     let right = writes(line).unwrap_or(0);
     // Never one digit, so that it cannot stand for the byte.
     let length = format!("{:03}", right).into_bytes();

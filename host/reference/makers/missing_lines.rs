@@ -256,7 +256,7 @@ mod tests {
         };
         let are_refused = |answer: &&&String| answer.starts_with("refused 2");
         for word in [
-            "speech?", "control?", "sacch?", "access?", "sch?", "trellis", "take",
+            "speech?", "control?", "sacch?", "access?", "sch?", "efr?", "trellis", "take",
         ] {
             let answers = answers_to(word);
             let refused = answers.iter().filter(are_refused).count();
@@ -269,7 +269,7 @@ mod tests {
                 others
             );
         }
-        for word in ["speech", "control", "sacch", "access", "sch", "send"] {
+        for word in ["speech", "control", "sacch", "access", "sch", "efr", "send"] {
             let answers = answers_to(word);
             let refused = answers.iter().filter(are_refused).count();
             assert!(refused > 5, "{}: {}", word, refused);

@@ -1,5 +1,6 @@
 //! The makers of lines for the kit and for the access sheet.
 
+mod efr_lines;
 mod fields;
 mod full_lines;
 mod help_lines;
@@ -36,7 +37,7 @@ pub struct Maker {
 }
 
 /// All makers.
-pub static MAKERS: [Maker; 13] = [
+pub static MAKERS: [Maker; 14] = [
     Maker {
         mode: "make-lines",
         numbers: "SEED COUNT",
@@ -96,6 +97,12 @@ pub static MAKERS: [Maker; 13] = [
         numbers: "SEED COUNT",
         with_returns: false,
         lines: missing_lines::lines,
+    },
+    Maker {
+        mode: "make-efr",
+        numbers: "SEED COUNT",
+        with_returns: false,
+        lines: |random, count| each(random, count, efr_lines::line),
     },
     Maker {
         mode: "make-windows",

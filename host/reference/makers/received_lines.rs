@@ -126,7 +126,7 @@ fn alter_some(random: &mut Random, list: &mut [u8]) {
 }
 
 /// Alters no bit mostly, or up to three.
-fn alter_few(random: &mut Random, list: &mut [u8]) {
+pub fn alter_few(random: &mut Random, list: &mut [u8]) {
     if random.one_in(3) {
         let number = 1 + random.below(3);
         lists::alter(random, list, number);
@@ -180,7 +180,7 @@ fn another_length(random: &mut Random, right: usize, longest: usize) -> usize {
 }
 
 /// Cuts the bits short or draws them out to another length.
-fn change_length(random: &mut Random, request: &mut Request) {
+pub fn change_length(random: &mut Random, request: &mut Request) {
     let right = request.bits.len();
     let longest = 1000 - (request.line().len() - right);
     let length = another_length(random, right, longest);
@@ -240,9 +240,10 @@ mod tests {
     use crate::makers::each;
     use crate::makers::sorts::{all_are, answers, times};
 
-    /// The answer of a decoding: a good block, or refusal 8.
+    /// The answer of a decoding: a good block, refusal 8, or refusal 10.
     fn is_decoded(answer: &str) -> bool {
-        is_good(answer) || answer.starts_with("refused 8 ")
+        let bad = ["refused 8 ", "refused 10 "];
+        is_good(answer) || bad.iter().any(|words| answer.starts_with(words))
     }
 
     /// The answer gives a good block.
@@ -283,7 +284,7 @@ mod tests {
 
     #[test]
     fn missing_bits_are_decoded_well_and_badly() {
-        let lines = each(&mut Random::new(226), 600, with_missing);
+        let lines = each(&mut Random::new(226), 900, with_missing);
         for channel in CHANNELS {
             let word = format!("{}? ", channel.name);
             let of_channel = lines

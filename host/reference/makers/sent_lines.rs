@@ -25,7 +25,7 @@ pub fn line(random: &mut Random) -> Vec<u8> {
 }
 
 /// A request that will be sent.
-fn valid(random: &mut Random, channel: &Channel) -> Request {
+pub fn valid(random: &mut Random, channel: &Channel) -> Request {
     let identity = fields::good_identity(random);
     let bits = fields::good_bits(random, channel.reads);
     Request::sending(channel, identity, bits)
@@ -54,7 +54,7 @@ fn another_length(random: &mut Random, right: usize) -> usize {
 }
 
 /// Other bits of another length.
-fn change_length(random: &mut Random, request: &mut Request) {
+pub fn change_length(random: &mut Random, request: &mut Request) {
     let length = another_length(random, request.bits.len());
     request.bits = fields::good_bits(random, length);
 }

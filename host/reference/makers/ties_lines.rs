@@ -49,9 +49,9 @@ mod tests {
     use crate::makers::sorts::streams_are_left_by_the_refused;
     use crate::makers::taken_blocks::{self, Block};
 
-    /// The blocks of four thousand lines.
+    /// The blocks of eight thousand lines.
     fn blocks(seed: u64) -> Vec<Block> {
-        taken_blocks::blocks(&lines(&mut Random::new(seed), 4000))
+        taken_blocks::blocks(&lines(&mut Random::new(seed), 8000))
     }
 
     #[test]

@@ -2,11 +2,12 @@
 
 use crate::model::burst::{from_four_bursts, on_four_bursts};
 use crate::model::coding;
+use crate::model::efr;
 use crate::model::polynomial::{from_powers, multiply, Polynomial};
 use crate::model::receiving;
 use crate::model::refusal::{check_identity, check_received, check_sent, Refusal};
 
-/// A good block: the count of disagreements and the information bits d.
+/// A good block: the count of disagreements and the information bits.
 pub type Received = Result<(usize, Vec<u8>), Refusal>;
 
 /// What a channel that has no identity is called with; it is not looked at.
@@ -17,7 +18,8 @@ pub const NO_IDENTITY: u64 = 0;
 pub struct Channel {
     /// The kit's verb that sends a block; with a question mark behind it, the one that receives it.
     pub name: &'static str,
-    /// The number of information bits d that sending reads and receiving writes.
+    /// The number of information bits that sending reads and receiving writes: d, but s for enhanced
+    /// full rate.
     pub reads: usize,
     /// The number of bits that sending writes and receiving reads.
     pub writes: usize,
@@ -25,7 +27,7 @@ pub struct Channel {
     pub has_identity: bool,
     /// g(D)
     pub generator: fn() -> Polynomial,
-    /// The parity is over so many of the first information bits.
+    /// The parity is over so many of the first bits d.
     pub covered: usize,
     /// Where the parity bits stand in u: the first, and how many.
     pub parity: (usize, usize),
@@ -33,7 +35,7 @@ pub struct Channel {
     pub pairs: usize,
     /// The eight flags of a block that is sent on four bursts; others are sent as they are coded.
     pub flags: Option<[u8; 8]>,
-    /// The coded bits c of an identity and of d.
+    /// The coded bits c of an identity and of information bits.
     encoder: fn(&Channel, u64, &[u8]) -> Vec<u8>,
     /// The verdict on received bits c under an identity.
     decoder: fn(&Channel, u64, &[u8]) -> Received,
@@ -107,8 +109,17 @@ pub const SCH: Channel = Channel {
     decoder: receiving::block,
 };
 
+/// Enhanced full rate, 3.1.1: the coder of speech behind a preliminary stage. 02, M-103
+pub const EFR: Channel = Channel {
+    name: "efr",
+    reads: 244,
+    encoder: efr::encode,
+    decoder: efr::decode,
+    ..SPEECH
+};
+
 /// All channels.
-pub static CHANNELS: [Channel; 5] = [SPEECH, CONTROL, SACCH, ACCESS, SCH];
+pub static CHANNELS: [Channel; 6] = [SPEECH, CONTROL, SACCH, ACCESS, SCH, EFR];
 
 /// The channel of this name; nothing if there is none.
 pub fn named(name: &[u8]) -> Option<&'static Channel> {
@@ -130,13 +141,13 @@ impl Channel {
         Ok(())
     }
 
-    /// The coded bits c of information bits d that are in order, before they are put on bursts.
+    /// The coded bits c of information bits that are in order, before they are put on bursts.
     pub fn coded(&self, identity: u64, d: &[u8]) -> Vec<u8> {
         (self.encoder)(self, identity, d)
     }
 
-    /// The bits that are sent for the information bits d, written to so many lent bytes; refusals
-    /// in the order 1, 2, 3.
+    /// The bits that are sent for the information bits, written to so many lent bytes; refusals in
+    /// the order 1, 2, 3.
     pub fn encode(&self, identity: u64, d: &[u8], lent: usize) -> Result<Vec<u8>, Refusal> {
         check_sent(d, d.len() == self.reads && lent == self.writes)?;
         self.check_identity(identity)?;
@@ -147,8 +158,8 @@ impl Channel {
         })
     }
 
-    /// The block that is received, written to so many lent bytes; refusals in the order 1, 2, 3, 8.
-    /// The flags of four bursts must be bits or missing, but are not used.
+    /// The block that is received, written to so many lent bytes; refusals in the order 1, 2, 3, 8,
+    /// 10. The flags of four bursts must be bits or missing, but are not used.
     pub fn decode(&self, identity: u64, e: &[u8], lent: usize) -> Received {
         check_received(e, e.len() == self.writes && lent == self.reads)?;
         self.check_identity(identity)?;
@@ -176,7 +187,7 @@ mod tests {
     }
 
     #[test]
-    fn the_table_is_that_of_paper_01() {
+    fn the_table_is_that_of_papers_01_and_02() {
         let rows = CHANNELS.map(|channel| (channel.name, channel.reads, channel.writes));
         let paper = [
             ("speech", 260, 456),
@@ -184,6 +195,7 @@ mod tests {
             ("sacch", 184, 464),
             ("access", 8, 36),
             ("sch", 25, 78),
+            ("efr", 244, 456),
         ];
         assert_eq!(rows, paper);
         let with_identity = CHANNELS.iter().filter(|channel| channel.has_identity);
@@ -206,7 +218,7 @@ mod tests {
             let found = named(channel.name.as_bytes()).unwrap();
             assert_eq!(found.name, channel.name);
         }
-        for name in ["", "spee", "speechx", "Speech", "facch", "speech?"] {
+        for name in ["", "spee", "speechx", "Speech", "facch", "speech?", "efs"] {
             assert!(named(name.as_bytes()).is_none(), "{}", name);
         }
     }
@@ -219,6 +231,7 @@ mod tests {
         assert_eq!(powers(CONTROL), [0, 3, 17, 23, 26, 40]);
         assert_eq!(powers(ACCESS), [0, 1, 2, 3, 5, 6]);
         assert_eq!(powers(SCH), [0, 2, 4, 5, 6, 8, 10]);
+        assert_eq!(powers(EFR), powers(SPEECH));
     }
 
     #[test]

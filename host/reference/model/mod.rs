@@ -6,6 +6,8 @@ pub mod burst;
 pub mod channel;
 pub mod coding;
 pub mod decoding;
+pub mod efr;
+pub mod efr_order;
 pub mod exhaustive;
 pub mod kind;
 pub mod missing;

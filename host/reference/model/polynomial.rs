@@ -1,5 +1,7 @@
 //! Polynomials over GF(2), by school arithmetic: long multiplication and long division.
 
+use crate::model::bits::inverted;
+
 /// Place i holds the coefficient of D^i, 0 or 1.
 pub type Polynomial = Vec<u8>;
 
@@ -46,14 +48,25 @@ pub fn remainder(f: &[u8], g: &[u8]) -> Polynomial {
 }
 
 /// p(0)..p(m-1), such that d(0)D^(n+m-1) + .. + d(n-1)D^m + p(0)D^(m-1) + .. + p(m-1),
-/// divided by g(D), leaves 1 + D + .. + D^(m-1).
-pub fn parity(d: &[u8], g: &[u8]) -> Vec<u8> {
+/// divided by g(D), leaves 0.
+pub fn crc(d: &[u8], g: &[u8]) -> Vec<u8> {
     let m = g.len() - 1;
     let mut block = d.to_vec();
     block.resize(d.len() + m, 0);
     let rest = remainder(&from_bits(&block), g);
-    // p(k) stands at D^(m-1-k) and makes the coefficient there 1.
-    (0..m).map(|k| (rest[m - 1 - k] + 1) % 2).collect()
+    // p(k) stands at D^(m-1-k) and makes the coefficient there 0.
+    (0..m).map(|k| rest[m - 1 - k]).collect()
+}
+
+/// The same, but what is left is 1 + D + .. + D^(m-1): each of them makes its coefficient 1.
+pub fn parity(d: &[u8], g: &[u8]) -> Vec<u8> {
+    inverted(&crc(d, g))
+}
+
+/// The bits, divided by g(D), leave 0.
+pub fn leaves_0(bits: &[u8], g: &[u8]) -> bool {
+    let rest = remainder(&from_bits(bits), g);
+    rest.iter().all(|&coefficient| coefficient == 0)
 }
 
 /// The bits, divided by g(D) of degree m, leave 1 + D + .. + D^(m-1).
@@ -108,8 +121,20 @@ mod tests {
         // D^5 + D^3 leaves D^2 + D + 1 + D + 1 = D^2, so D + 1 makes it all ones.
         let g = from_powers(&[3, 1, 0]);
         assert_eq!(remainder(&from_powers(&[5, 3]), &g), [0, 0, 1]);
+        assert_eq!(parity(&[1, 0, 1], &g), [0, 1, 1]);
         assert!(leaves_all_ones(&[1, 0, 1, 0, 1, 1], &g));
         assert!(!leaves_all_ones(&[1, 0, 1, 0, 0, 1], &g));
         assert!(!leaves_all_ones(&[0, 0, 0, 0, 0, 0], &g));
+    }
+
+    #[test]
+    fn nothing_is_left_or_something() {
+        // The same D^5 + D^3, which leaves D^2.
+        let g = from_powers(&[3, 1, 0]);
+        assert_eq!(crc(&[1, 0, 1], &g), [1, 0, 0]);
+        assert!(leaves_0(&[1, 0, 1, 1, 0, 0], &g));
+        assert!(!leaves_0(&[1, 0, 1, 0, 1, 1], &g));
+        assert!(!leaves_0(&[1, 0, 1, 1, 0, 1], &g));
+        assert!(leaves_0(&[0, 0, 0, 0, 0, 0], &g));
     }
 }

@@ -2,7 +2,7 @@
 
 use crate::model::missing::MISSING;
 
-/// Why a call is refused. Where several apply: 1, 2, 3, 7, 5, 4, 6, 9, 8.
+/// Why a call is refused. Where several apply: 1, 2, 3, 7, 5, 4, 6, 9, 8, 10.
 #[derive(Clone, Copy, Debug, PartialEq)]
 pub enum Refusal {
     /// A lent buffer has another length than the table says.
@@ -23,6 +23,8 @@ pub enum Refusal {
     BadParity { count: usize },
     /// As many of the eight flags are 1 as are 0, and the parity is bad as FACCH and as speech.
     EqualFlags,
+    /// The parity of enhanced full rate is good and its CRC is bad; the count is returned besides.
+    BadCrc { count: usize },
 }
 
 impl Refusal {
@@ -38,13 +40,14 @@ impl Refusal {
             Refusal::Ended => 7,
             Refusal::BadParity { .. } => 8,
             Refusal::EqualFlags => 9,
+            Refusal::BadCrc { .. } => 10,
         }
     }
 
     /// The count, where it is returned besides.
     pub fn count(self) -> Option<usize> {
         match self {
-            Refusal::BadParity { count } => Some(count),
+            Refusal::BadParity { count } | Refusal::BadCrc { count } => Some(count),
             _ => None,
         }
     }
@@ -86,7 +89,7 @@ mod tests {
     use super::*;
 
     #[test]
-    fn the_nine_numbers_are_those_of_paper_01() {
+    fn the_ten_numbers_are_those_of_papers_01_and_02() {
         let refusals = [
             WrongLength,
             NotABit,
@@ -97,12 +100,13 @@ mod tests {
             Ended,
             BadParity { count: 3 },
             EqualFlags,
+            BadCrc { count: 3 },
         ];
         let numbers: Vec<u8> = refusals.iter().map(|refusal| refusal.number()).collect();
-        assert_eq!(numbers, [1, 2, 3, 4, 5, 6, 7, 8, 9]);
-        // Of these, 8 alone returns a count besides.
+        assert_eq!(numbers, [1, 2, 3, 4, 5, 6, 7, 8, 9, 10]);
+        // Of these, 8 and 10 return a count besides.
         for refusal in refusals {
-            let count = (refusal.number() == 8).then_some(3);
+            let count = [8, 10].contains(&refusal.number()).then_some(3);
             assert_eq!(refusal.count(), count);
         }
     }

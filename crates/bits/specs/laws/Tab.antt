@@ -3,7 +3,7 @@ use mathlib.Core.Bool.{Bool, true, false}
 use mathlib.Core.List.{List, [], _∷_, _++_}
 use mathlib.Core.Logic.{⊎-elim}
 use mathlib.Core.Path.{_≡_, refl, sym, ap, _∙_, subst}
-use Prim.Native.Nat.{ℕ, zero, suc, _+_, _*_, _/_, _%_, _≤_, _<_}
+use Prim.Native.Nat.{ℕ, zero, suc, _+_, _-_, _*_, _/_, _%_, _≤_, _<_}
 use native.Mathlib.Nat.{add-zero, zero-add, add-suc, suc-add, le-of-suc-le-suc, not-suc-le-zero, eq-or-lt-of-le}
 use native.Mathlib.Omega.{arith}
 use lib.Dec.{T, eqb}
@@ -123,3 +123,15 @@ tab-more n f =
         ⊎-elim (λ (e : k ≡ n). at-right (tab n f) (f n ∷ []) n 0 k (length-tab n f) (omega arith) ∙ ap f (sym e))
         (λ (l : k < n). at-left (tab n f) (f n ∷ []) k (rw (length-tab n f) l) ∙ at-tab n f k l)
         (eq-or-lt-of-le (le-of-suc-le-suc h))
+
+-- ---- a list that goes on as the next b entries do is a + b of them
+pub tab-then : (a b n : ℕ) (f : ℕ → ℕ) (v w : List ℕ) → v ≡ tab a f → w ≡ tab b (λ i. f (a + i)) → n ≡ a + b → v ++ w ≡ tab n f
+tab-then a b n f v w ev ew en =
+    let lv : length v ≡ a = ap length ev ∙ length-tab a f in
+    let lw : length w ≡ b = ap length ew ∙ length-tab b (λ i. f (a + i)) in
+    is-tab n f (v ++ w) (length-append v w ∙ omega (arith, lv, lw, en))
+    (λ k h. ⊎-elim
+    (λ (l : k < a). at-left v w k (rw lv l) ∙ ap (λ (x : List ℕ). getD x k 0) ev ∙ at-tab a f k l)
+    (λ (l : a ≤ k). let e : a + (k - a) ≡ k = omega arith in
+    at-right v w a (k - a) k lv (sym e) ∙ ap (λ (x : List ℕ). getD x (k - a) 0) ew ∙ at-tab b (λ i. f (a + i)) (k - a) (omega (arith, h, en, l)) ∙ ap f e)
+    (lt-or-le k a))

@@ -31,7 +31,7 @@ use Rattle.answers.specs.declared.Told.{Told}
 use Rattle.answers.specs.declared.Told.the-variants.{Done, Refused}
 use Rattle.coder.specs.Blocks.{speechBlock, controlBlock, sacchMessage, accessBurst, schBurst}
 use Rattle.coder.specs.Entries.{judged, lengths, Given, entry, viewLength, unreached, speechSent, controlSent, sacchSent, accessSent, schSent, trellisViewed}
-use Rattle.coder.specs.Received.{Hearing, allOnes, speechDAt, blockHeard, speechHeard, judgedHearing, reception, speechReceived, controlReceived, sacchReceived, accessReceived, schReceived}
+use Rattle.coder.specs.Received.{Hearing, speechDAt, blockHeard, speechHeard, judgedHearing, reception, speechReceived, controlReceived, sacchReceived, accessReceived, schReceived}
 use Rattle.coder.specs.Says.{Refusing, Sends, SpeechSends, ControlSends, SacchSends, AccessSends, SchSends, Decodes, blockWord, BlockDecodes, speechD, speechWord, SpeechDecodes, Accepts, FindsBad, Receives, SpeechReceives, ControlReceives, SacchReceives, AccessReceives, SchReceives, Views}
 use Rattle.coder.specs.laws.Blocks.{control-long, access-long, sch-long}
 use Rattle.coder.specs.laws.Entries.{done-held, done-given, done-identity, sends, view-fewest}
@@ -41,7 +41,7 @@ use Rattle.coder.specs.laws.Restored.{ones-good, good-ones}
 
 -- ---- the first that applies
 module _ (most n m i : ℕ) (d c : List ℕ) where
-  abbrev told : Told
+  abbrev pub told : Told
   told = judged (lengths d n c m) (noneOver most d) (leb i 63)
 
   is-one : ((length d ≡ n) × (length c ≡ m) → ⊥) → told ≡ Refused Length
@@ -59,7 +59,7 @@ module _ (most n m i : ℕ) (d c : List ℕ) where
   unfolding judged
   is-three g h = rw (eq-eqb (length d) n (g .reads), eq-eqb (length c) m (g .lends), over-none most d (g .bits), lt-leb i 63 h) refl
 
-  refusing : {A : Type 0} (of : A → Returned) (a : Answer A) → ((x : Refusal) → told ≡ Refused x → Refuses of a (numberOf x) c) → Refusing of a most n m i d c
+  pub refusing : {A : Type 0} (of : A → Returned) (a : Answer A) → ((x : Refusal) → told ≡ Refused x → Refuses of a (numberOf x) c) → Refusing of a most n m i d c
   refusing of a says = record {
     one = λ h. says Length (is-one h);
     two = λ reads lends h. says NotBits (is-two reads lends h);
@@ -107,7 +107,7 @@ pub record HeardOf (h : Hearing) (c : List ℕ) (pairs : ℕ) (g : List ℕ) (wo
   pub nearest : Nearest c pairs u (h .count)
   pub bits : h .bits ≡ handed u
   pub good : remainder g (word u) ≡ ones (length g) → h .good ≡ true
-  pub bad : (remainder g (word u) ≡ ones (length g) → ⊥) → h .good ≡ false
+  pub only : h .good ≡ true → remainder g (word u) ≡ ones (length g)
 
 -- once over the generator, the identity and the length
 pub block-heard : (g : List ℕ) (i n pairs : ℕ) (c : List ℕ) → n + length g + 4 ≡ pairs → pairs ≤ longest → HeardOf (blockHeard g i n c) c pairs g (blockWord g i n) (take n)
@@ -125,7 +125,7 @@ block-heard g i n pairs c size short =
       nearest = subst (λ (k : ℕ). Nearest c k u (nearestCount c (n + length g + 4))) size is;
       bits = refl;
       good = λ e. ones-good g (take n u) (add p b) lq bd bq e;
-      bad = λ h. not-true (allOnes g (take n u ++ add p b)) (λ (e : allOnes g (take n u ++ add p b) ≡ true). h (good-ones g (take n u) (add p b) lq bd bq e));
+      only = λ e. good-ones g (take n u) (add p b) lq bd bq e;
     }
 
 pub speech-heard : (c : List ℕ) → HeardOf (speechHeard c) (take 378 c) 189 speechG speechWord (λ u. speechD u ++ givenBits (drop 378 c))
@@ -144,7 +144,7 @@ speech-heard c =
       nearest = is;
       bits = refl;
       good = λ e. ones-good speechG w q lq bd bq e;
-      bad = λ h. not-true (allOnes speechG (w ++ q)) (λ (e : allOnes speechG (w ++ q) ≡ true). h (good-ones speechG w q lq bd bq e));
+      only = λ e. good-ones speechG w q lq bd bq e;
     }
 
 -- ---- ONE LAW: what is told of a hearing is told of the nearest block
@@ -156,7 +156,7 @@ decodes h c pairs g word handed x accepts finds-bad if-good if-bad = record {
   count = h .count;
   nearest = x .nearest;
   good = λ e. subst (accepts (h .count)) (x .bits) (if-good (x .good e));
-  bad = λ e. if-bad (x .bad e);
+  bad = λ e. if-bad (not-true (h .good) (λ (t : h .good ≡ true). e (x .only t)));
 }
 
 -- of 456 bits as a control block, and as a speech block

@@ -1,12 +1,12 @@
--- Division is linear, once over the generator and the length; so exactly one list of parity bits leaves all ones.
+-- Division is linear, once over the generator and the length; so exactly one list of parity bits leaves all ones, and exactly one leaves 0.
 use mathlib.Core.List.{List, [], _∷_, _++_}
-use mathlib.Core.Path.{_≡_, refl, sym, ap, ap₂, _∙_}
+use mathlib.Core.Path.{_≡_, refl, sym, ap, ap₂, _∙_, subst}
 use Prim.Native.Nat.{ℕ, zero, suc, _-_, _≤_}
 use native.Mathlib.Omega.{arith}
 use lib.ListN.{length, length-append}
 use Rattle.bits.specs.Bits.{Bits, sum, add, zeros, ones}
-use Rattle.bits.specs.laws.Sum.{add-swap, add-assoc, add-cancel, add-zeros, add-twice, length-add, length-zeros, length-ones, bits-add, bits-zeros, bits-ones, bits-append}
-use Rattle.parity.specs.Division.{divide, remainder, parity}
+use Rattle.bits.specs.laws.Sum.{add-swap, add-assoc, add-cancel, add-zeros, add-twice, add-self, sum-nothing, length-add, length-zeros, length-ones, bits-add, bits-zeros, bits-ones, bits-append}
+use Rattle.parity.specs.Division.{divide, remainder, parity, crc}
 
 tail : (a : ℕ) (w : List ℕ) → Bits (a ∷ w) → Bits w
 tail a w bw k = bw (suc k)
@@ -81,3 +81,23 @@ module _ (g d : List ℕ) (bd : Bits d) where
   parity-only p long bp e =
       let x = remainder g (d ++ zeros (length g)) in
       sym (add-twice x p bp) ∙ ap (λ (l : List ℕ). add x l) (sym (remainder-after g d p long bd bp) ∙ e) ∙ sym parity-turned
+
+-- ---- 02, M-103: exactly one list of bits leaves 0
+module _ (g b : List ℕ) (bb : Bits b) where
+  and-zeros : crc g b ≡ add (crc g b) (zeros (length g))
+  unfolding crc
+  and-zeros = remainder-after g b (zeros (length g)) (length-zeros (length g)) bb (bits-zeros (length g))
+
+  pub length-crc : length (crc g b) ≡ length g
+  length-crc = ap length and-zeros ∙ length-add (crc g b) (zeros (length g)) ∙ length-zeros (length g)
+
+  pub bits-crc : Bits (crc g b)
+  bits-crc = subst Bits (sym and-zeros) (bits-add (crc g b) (zeros (length g)) (bits-zeros (length g)))
+
+  pub crc-leaves : remainder g (b ++ crc g b) ≡ zeros (length g)
+  unfolding crc
+  crc-leaves = remainder-after g b (crc g b) length-crc bb bits-crc ∙ add-self (crc g b) bits-crc ∙ ap zeros length-crc
+
+  pub crc-only : (p : List ℕ) → length p ≡ length g → Bits p → remainder g (b ++ p) ≡ zeros (length g) → p ≡ crc g b
+  unfolding crc
+  crc-only p long bp e = sym (sum-nothing (length g) (crc g b) p length-crc bits-crc bp (sym (remainder-after g b p long bb bp) ∙ e))

@@ -1,7 +1,7 @@
 -- The generators as the code carries them, each one computed test.
 use mathlib.Core.Path.{_≡_, refl}
 use Rattle.bits.specs.Bits.{digits, tab, tabFrom}
-use Rattle.parity.specs.Division.{occurs, product, lower, speechG, controlG, accessG, schG}
+use Rattle.parity.specs.Division.{occurs, product, lower, speechG, controlG, accessG, schG, efrG}
 
 pub speech-number : digits 3 0b011 ≡ speechG
 unfolding digits tab tabFrom occurs product lower speechG
@@ -18,3 +18,7 @@ access-number = refl
 pub sch-number : digits 10 0b0101110101 ≡ schG
 unfolding digits tab tabFrom occurs product lower schG
 sch-number = refl
+
+pub efr-number : digits 8 0b00011101 ≡ efrG
+unfolding digits tab tabFrom occurs product lower efrG
+efr-number = refl

@@ -1,0 +1,6 @@
+pub mod Answers
+pub mod Entries
+pub mod Says
+pub mod Promises
+pub mod Examples
+pub mod laws

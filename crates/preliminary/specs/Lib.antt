@@ -1,0 +1,2 @@
+pub mod Stage
+pub mod laws
