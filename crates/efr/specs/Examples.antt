@@ -6,7 +6,7 @@ use mathlib.Core.Path.{_≡_, refl}
 use Prim.Native.Nat.{ℕ, suc}
 use lib.Dec.{eqb}
 use lib.ListN.{length}
-use Rattle.bits.specs.Bits.{pick, both, largest, noneOver, tab, tabFrom, add, zeros, ones}
+use Rattle.bits.specs.Bits.{pick, largest, noneOver, tab, tabFrom, add, zeros, ones}
 use Rattle.parity.specs.Division.{occurs, product, lower, divide, remainder, parity, crc, speechG, efrG}
 use Rattle.convolution.specs.Pairs.{back, first, second, codedAt, coded}
 use Rattle.order.specs.Order.{fetched}

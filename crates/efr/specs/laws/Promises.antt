@@ -6,32 +6,29 @@ use mathlib.Core.Path.{_≡_, refl, sym, ap, ap₂, _∙_, subst}
 use Prim.Native.Nat.{ℕ, suc, _+_, _-_, _*_, _≤_, _<_}
 use native.Mathlib.Omega.{arith}
 use lib.Dec.{eqb, lit≤}
-use lib.ListN.{length, getD, take, drop, length-append, length-drop}
+use lib.ListN.{length, getD, take, drop, length-drop}
 use lib.Seq.{length-take-le, getD-take, getD-drop, ext-getD}
 use borrow.Author.Tests.{lt-ltb, le-ltb}
-use Rattle.bits.specs.Bits.{Bits, givenAs, givenBits, missing, pick, tab, value}
+use Rattle.bits.specs.Bits.{Bits, givenAs, givenBits, missing, pick, value}
 use Rattle.bits.specs.laws.Cases.{lt-or-le}
-use Rattle.bits.specs.laws.Missing.{length-given, given-at, given-same, missing-take}
+use Rattle.bits.specs.laws.Missing.{given-at, given-same, missing-take}
 use Rattle.bits.specs.laws.Tab.{length-tab, at-tab, is-tab, tab-same, at-left, at-right}
 use Rattle.order.specs.Order.{from1, placeIn}
 use Rattle.order.specs.laws.Order.{from-suc}
 use Rattle.parity.specs.Division.{remainder, speechG, efrG}
 use Rattle.trellis.specs.Nearest.{disagreements, nearest, nearestCount}
-use Rattle.answers.specs.Answers.{Answer, returned, ofTold}
-use Rattle.answers.specs.declared.Maybe.the-variants.{None}
+use Rattle.answers.specs.Answers.{Answer, ofTold}
 use Rattle.answers.specs.declared.Told.{Told}
-use Rattle.answers.specs.declared.Told.the-variants.{Done}
 use Rattle.coder.specs.Blocks.{speechBlock}
 use Rattle.coder.specs.Entries.{Given, entry}
-use Rattle.coder.specs.Promises.{altered, whole}
+use Rattle.coder.specs.Promises.{altered}
 use Rattle.coder.specs.Received.{Hearing, allOnes, speechDAt, speechHeard}
 use Rattle.coder.specs.Says.{speechD, speechWord}
 use Rattle.coder.specs.laws.Entries.{done, sends}
 use Rattle.coder.specs.laws.Hearings.{speech-hearing}
 use Rattle.efr.specs.Entries.{efrBlock, efrSent, efrReceived}
 use Rattle.efr.specs.Promises.{arrived, handed, Back, EfrBears, EfrPromise, CopiesIgnored}
-use Rattle.efr.specs.Says.{Accepts}
-use Rattle.preliminary.specs.Stage.{efrW, efrD, wOf, sOf, crcWord, crcGood, inW, copies, isOneOf, inD, isProtected}
+use Rattle.preliminary.specs.Stage.{efrD, wOf, sOf, crcWord, crcGood, inW, copies, isOneOf, inD, isProtected}
 use Rattle.tables.specs.Tables.{ordering}
 use Rattle.preliminary.specs.laws.Protected.{at-k, below-260, same-word}
 use Rattle.efr.specs.laws.Says.{zeros-good, bad-parity, bad-crc, all-good, accepts-all}

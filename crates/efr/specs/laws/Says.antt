@@ -1,13 +1,13 @@
 -- What the two entries answer is what Says has; and 10 is given exactly where the three-bit parity is good and the CRC is not.
 use mathlib.Core.Bool.{Bool, true, false}
 use mathlib.Core.List.{List, _++_}
-use mathlib.Core.Path.{_≡_, refl, sym, ap, ap₂, _∙_, subst}
+use mathlib.Core.Path.{_≡_, refl, sym, ap, _∙_, subst}
 use Prim.Native.Nat.{ℕ, _+_, _≤_}
 use native.Mathlib.Omega.{arith}
 use lib.Dec.{leb, lit≤}
 use lib.ListN.{length, take, drop, length-drop}
 use borrow.Author.Tests.{eq-eqb, eqb-true}
-use Rattle.bits.specs.Bits.{Bits, givenBits, pick, noneOver, add, value, ones, zeros}
+use Rattle.bits.specs.Bits.{Bits, givenBits, noneOver, add, value, ones, zeros}
 use Rattle.bits.specs.laws.Cases.{not-true, false-true}
 use Rattle.bits.specs.laws.Sum.{length-zeros, bits-zeros, length-add, bits-add, bits-drop}
 use Rattle.parity.specs.Division.{remainder, speechG, efrG}
@@ -16,7 +16,6 @@ use Rattle.trellis.specs.laws.Nearest.{nearest-once}
 use Rattle.order.specs.Order.{fetched}
 use Rattle.order.specs.laws.Order.{over-fetched}
 use Rattle.answers.specs.Answers.{Answer, numberOf}
-use Rattle.answers.specs.declared.Heard.{Heard}
 use Rattle.answers.specs.declared.Heard.the-variants as heard
 use Rattle.answers.specs.declared.Maybe.{Maybe}
 use Rattle.answers.specs.declared.Maybe.the-variants.{None, Some}

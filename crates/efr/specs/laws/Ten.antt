@@ -1,11 +1,11 @@
 -- 10 occurs: a block that nobody altered, with good parity and a bad CRC.
 use mathlib.Core.Bool.{true, false}
 use mathlib.Core.List.{List, _++_}
-use mathlib.Core.Path.{_≡_, refl, sym, ap, _∙_, subst}
-use Prim.Native.Nat.{ℕ, _+_, _*_, _≤_}
-use lib.Dec.{T, eqb, leb, leb→le, lit≤}
+use mathlib.Core.Path.{_≡_, refl, ap, _∙_}
+use Prim.Native.Nat.{ℕ, _+_, _*_}
+use lib.Dec.{T, eqb, leb, leb→le}
 use lib.ListN.{length, take, drop}
-use Rattle.bits.specs.Bits.{Bits, Symbols, pick, both, largest, noneOver, isMissing, lost, missing, total, differ, givenAs, givenBits, tab, tabFrom, add, zeros, ones, value}
+use Rattle.bits.specs.Bits.{Bits, pick, largest, noneOver, isMissing, missing, total, differ, givenAs, givenBits, tab, tabFrom, add, zeros, ones, value}
 use Rattle.bits.specs.laws.Check.{none-over}
 use Rattle.bits.specs.laws.Tab.{length-tab}
 use Rattle.parity.specs.Division.{occurs, product, lower, divide, remainder, parity, speechG, efrG}
@@ -15,7 +15,6 @@ use Rattle.order.specs.Order.{fetched, placeIn, putBack}
 use Rattle.coder.specs.Blocks.{speechP, speechUAt, speechU, speechBlock}
 use Rattle.coder.specs.Entries.{Given}
 use Rattle.coder.specs.Received.{Hearing, speechHeard}
-use Rattle.coder.specs.laws.Entries.{done}
 use Rattle.coder.specs.laws.Hearings.{speech-hearing}
 use Rattle.efr.specs.Examples.{crcAlone, TenOccurs}
 use Rattle.preliminary.specs.Stage.{wOf, inW, sOf, crcWord, crcGood}

@@ -1,14 +1,23 @@
 -- One law over the length: a table that passes a computed test is a permutation. And what a permutation fetched is put back.
 use mathlib.Core.Bool.{Bool}
-use mathlib.Core.List.{List}
-use mathlib.Core.Path.{_≡_, sym, ap, _∙_}
-use Prim.Native.Nat.{ℕ, suc, _+_, _-_, _≤_, _<_}
+use mathlib.Core.List.{List, [], _∷_}
+use mathlib.Core.Path.{_≡_, refl, sym, ap, _∙_}
+use Prim.Native.Nat.{ℕ, suc, _-_, _≤_, _<_}
 use native.Mathlib.Omega.{arith}
 use lib.Dec.{T, eqb, leb, ltb, eqb→eq, leb→le, ltb→lt}
 use lib.ListN.{length, getD}
-use Rattle.bits.specs.Bits.{NoneOver, both, allBelow, tab}
+use Rattle.bits.specs.Bits.{NoneOver, both, allBelow, tab, tabFrom}
 use Rattle.bits.specs.laws.Tab.{below, both-left, both-right, length-tab, at-tab, is-tab, over-tab}
 use Rattle.order.specs.Order.{from1, Within, fetched, placeIn, Permutation, putBack}
+
+-- ---- an example: three numbers that a table turns round, and back
+turned : fetched (2 ∷ 3 ∷ 1 ∷ []) (7 ∷ 8 ∷ 9 ∷ []) ≡ 8 ∷ 9 ∷ 7 ∷ []
+unfolding fetched tab tabFrom
+turned = refl
+
+turned-back : putBack (2 ∷ 3 ∷ 1 ∷ []) (8 ∷ 9 ∷ 7 ∷ []) ≡ 7 ∷ 8 ∷ 9 ∷ []
+unfolding putBack placeIn tab tabFrom
+turned-back = refl
 
 -- ---- the test: at place k stands a number from 1 to n, for the first time; and k + 1 stands at one of n places
 abbrev pub inside : ℕ → List ℕ → ℕ → Bool

@@ -82,7 +82,11 @@ module _ (g d : List ℕ) (bd : Bits d) where
       let x = remainder g (d ++ zeros (length g)) in
       sym (add-twice x p bp) ∙ ap (λ (l : List ℕ). add x l) (sym (remainder-after g d p long bd bp) ∙ e) ∙ sym parity-turned
 
--- ---- 02, M-103: exactly one list of bits leaves 0
+-- ---- 02, M-103: exactly one list of bits leaves 0. An example over D^3 + D + 1: of a single 1 and its CRC
+one-and-its-crc : remainder (0 ∷ 1 ∷ 1 ∷ []) (1 ∷ crc (0 ∷ 1 ∷ 1 ∷ []) (1 ∷ [])) ≡ 0 ∷ 0 ∷ 0 ∷ []
+unfolding crc remainder divide add zeros ones
+one-and-its-crc = refl
+
 module _ (g b : List ℕ) (bb : Bits b) where
   and-zeros : crc g b ≡ add (crc g b) (zeros (length g))
   unfolding crc

@@ -1,9 +1,8 @@
 -- `preliminary::is_good` is right: the 65 bits and the CRC are divided.
-use mathlib.Core.Path.{refl, ap, _∙_, subst}
+use mathlib.Core.Path.{refl, ap, _∙_}
 use native.Mathlib.Omega.{arith}
 use lib.ListN.{length, take, drop}
 use lib.Dec.{eqb}
-use Rattle.bits.specs.Bits.{Bits}
 use Rattle.bits.specs.laws.Parts.{length-lent}
 use Rattle.bits.specs.laws.Sum.{bits-take, bits-drop}
 use Rattle.preliminary.specs.laws.Parts.{crc-divisible, crc-judged}

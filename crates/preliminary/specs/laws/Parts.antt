@@ -1,7 +1,6 @@
 -- What the code of the preliminary stage needs: w and s written part by part, and the CRC by its number.
 use mathlib.Core.Bool.{Bool}
-use mathlib.Core.List.{List, [], _++_, append-nil}
-use mathlib.Core.Logic.{⊎-elim}
+use mathlib.Core.List.{List, _++_, append-nil}
 use mathlib.Core.Path.{_≡_, refl, sym, ap, ap₂, _∙_, subst}
 use Prim.Native.Nat.{ℕ, suc, _+_, _-_, _≤_, _<_}
 use native.Mathlib.Omega.{arith}
@@ -9,13 +8,12 @@ use lib.Dec.{eqb, lit<, lit≤}
 use lib.ListN.{length, getD, take, drop, replicate, length-append, length-drop, drop-of-length-le, getD-replicate, length-replicate}
 use lib.Seq.{length-take-le, take-all, getD-take, getD-drop}
 use Rattle.bits.specs.Bits.{Bits, tab, digits, value, zeros}
-use Rattle.bits.specs.laws.Cases.{lt-or-le}
 use Rattle.bits.specs.laws.Parts.{put, put-next, put-two, length-lent, length-put}
-use Rattle.bits.specs.laws.Sum.{length-zeros, bits-zeros, bits-append, bits-drop, bits-take}
-use Rattle.bits.specs.laws.Tab.{length-tab, at-tab, is-tab, tab-then, at-left, at-right}
-use Rattle.bits.specs.laws.Value.{length-digits, digits-value}
+use Rattle.bits.specs.laws.Sum.{bits-append}
+use Rattle.bits.specs.laws.Tab.{length-tab, at-tab, is-tab, tab-then}
+use Rattle.bits.specs.laws.Value.{digits-value}
 use Rattle.parity.specs.Asked.{Generates}
-use Rattle.parity.specs.Division.{remainder, crc, efrG}
+use Rattle.parity.specs.Division.{remainder, crc}
 use Rattle.parity.specs.laws.Generators.{efr-number}
 use Rattle.order.specs.Order.{from1, fetched}
 use Rattle.order.specs.laws.Order.{from-suc, length-fetched, over-fetched}

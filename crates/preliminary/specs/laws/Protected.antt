@@ -1,18 +1,18 @@
 -- Where s(k) stands in d; and the 65 bits and the CRC's eight are protected, so that the CRC is judged of protected bits alone.
 use mathlib.Core.Bool.{Bool}
 use mathlib.Core.List.{List, _++_}
-use mathlib.Core.Path.{_≡_, sym, ap, ap₂, _∙_}
+use mathlib.Core.Path.{_≡_, refl, sym, ap, ap₂, _∙_}
 use Prim.Native.Nat.{ℕ, suc, _+_, _≤_, _<_}
 use native.Mathlib.Omega.{arith}
-use lib.Dec.{T, ltb, leb, ltb→lt}
+use lib.Dec.{ltb, ltb→lt}
 use lib.ListN.{length, getD, drop, length-drop}
 use lib.Seq.{getD-drop, ext-getD}
-use Rattle.bits.specs.Bits.{pick, both, allBelow, tab, tabFrom}
+use Rattle.bits.specs.Bits.{pick, tab, tabFrom, total}
 use Rattle.bits.specs.laws.Tab.{below, tab-same}
 use Rattle.order.specs.Order.{from1, fetched, placeIn}
 use Rattle.order.specs.laws.Order.{from-suc, at-putBack}
 use Rattle.tables.specs.Tables.{important, class1a, class1b, class2, spread, ordering}
-use Rattle.preliminary.specs.Stage.{wOf, inW, sOf, crcWord, inD}
+use Rattle.preliminary.specs.Stage.{wOf, inW, sOf, crcWord, inD, isProtected}
 use Rattle.tables.specs.laws.Tables.{ordering-permutes, important-long, important-within}
 use Rattle.preliminary.specs.laws.Stage.{in-w, at-s, length-of}
 
@@ -43,6 +43,11 @@ important-protected k h = ltb→lt (inD (getD important k 0)) 182 (below b-prote
 pub crc-protected : (i : ℕ) → i < 8 → placeIn ordering (253 + i) < 182
 unfolding p-protected ordering spread class1a class1b class2 tab tabFrom placeIn
 crc-protected i h = ltb→lt (placeIn ordering (253 + i)) 182 (below p-protected 8 tt i h)
+
+-- 174 of the 244 are protected: with the CRC's eight they are the 182 of class 1
+pub how-many : total 244 (λ i. pick (isProtected (suc i)) 1 0) ≡ 174
+unfolding total isProtected inD inW ordering spread class1a class1b class2 tab tabFrom placeIn
+how-many = refl
 
 -- ---- blocks whose protected bits are the same have one CRC verdict
 module _ (d e : List ℕ) (same : (j : ℕ) → j < 182 → getD d j 0 ≡ getD e j 0) where

@@ -5,18 +5,18 @@ use mathlib.Core.Logic.{⊎-elim}
 use mathlib.Core.Path.{_≡_, refl, sym, ap, ap₂, _∙_, subst}
 use Prim.Native.Nat.{ℕ, suc, _+_, _-_, _≤_, _<_}
 use native.Mathlib.Omega.{arith}
-use lib.Dec.{T, eqb, leb}
-use lib.ListN.{length, getD, drop, length-append, length-drop}
+use lib.Dec.{T, leb}
+use lib.ListN.{length, drop, length-drop}
 use lib.Seq.{getD-drop, ext-getD}
-use borrow.Author.Tests.{le-leb, lt-leb, eq-eqb}
-use Rattle.bits.specs.Bits.{Bits, NoneOver, pick, tab, value, zeros}
+use borrow.Author.Tests.{le-leb, lt-leb}
+use Rattle.bits.specs.Bits.{Bits, pick, zeros}
 use Rattle.bits.specs.laws.Cases.{lt-or-le}
 use Rattle.bits.specs.laws.Tab.{below, length-tab, at-tab, is-tab, over-tab}
 use Rattle.bits.specs.laws.Value.{length-digits}
-use Rattle.parity.specs.Division.{remainder, crc, efrG}
+use Rattle.parity.specs.Division.{remainder, efrG}
 use Rattle.parity.specs.laws.Division.{length-crc, bits-crc, crc-leaves}
 use Rattle.parity.specs.laws.Generators.{efr-number}
-use Rattle.order.specs.Order.{from1, fetched, putBack}
+use Rattle.order.specs.Order.{from1, fetched}
 use Rattle.order.specs.laws.Order.{from-suc, length-fetched, over-fetched, length-putBack, over-putBack, there-and-back}
 use Rattle.tables.specs.Tables.{important, ordering}
 use Rattle.preliminary.specs.Stage.{crcP, wAt, efrW, efrD, wOf, inW, sOf, copies, isOneOf, crcWord}
