@@ -1,3 +1,4 @@
 pub mod Division
 pub mod Asked
+pub mod Drawing
 pub mod laws

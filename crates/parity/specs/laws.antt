@@ -1,3 +1,4 @@
 pub mod Division
 pub mod Brought
 pub mod Generators
+pub mod Drawing

@@ -31,7 +31,7 @@ along g s (b ∷ w) = along g (bringDown g s b) w
 none : Bits []
 none k = omega arith
 
-length-bring : (g s : List ℕ) (b : ℕ) → length (bringDown g s b) ≡ length s
+pub length-bring : (g s : List ℕ) (b : ℕ) → length (bringDown g s b) ≡ length s
 unfolding bringDown
 length-bring g [] b = refl
 length-bring g (zero ∷ s) b = length-append s (b ∷ []) ∙ omega arith
@@ -80,6 +80,14 @@ remainder-along g w l h =
     ∙ ap (λ (s : List ℕ). along g s (drop r w)) (sym first)
     ∙ sym (along-append g (zeros r) (take r w) (drop r w))
     ∙ ap (along g (zeros r)) (take-append-drop r w)
+
+-- one bit more is brought down behind the remainder
+pub remainder-more : (g w : List ℕ) (b : ℕ) → 0 < length g → length g ≤ length w → remainder g (w ++ (b ∷ [])) ≡ bringDown g (remainder g w) b
+unfolding along
+remainder-more g w b l h =
+    remainder-along g (w ++ (b ∷ [])) l (rw (length-append w (b ∷ [])) (omega (arith, h)))
+    ∙ along-append g (zeros (length g)) w (b ∷ [])
+    ∙ ap (λ (s : List ℕ). bringDown g s b) (sym (remainder-along g w l h))
 
 -- ---- the same with numbers
 unfoldable pub broughtDown : ℕ → ℕ → ℕ → ℕ → ℕ

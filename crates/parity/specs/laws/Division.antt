@@ -62,7 +62,7 @@ remainder-after g d p long bd bp =
 
 -- ---- exactly one list of parity bits leaves all ones
 module _ (g d : List ℕ) (bd : Bits d) where
-  parity-turned : parity g d ≡ add (remainder g (d ++ zeros (length g))) (ones (length g))
+  pub parity-turned : parity g d ≡ add (remainder g (d ++ zeros (length g))) (ones (length g))
   unfolding parity
   parity-turned = remainder-after g d (ones (length g)) (length-ones (length g)) bd (bits-ones (length g))
 

@@ -1,0 +1,59 @@
+-- `parity::drawing::read_off` is right: after k turns the first k places are read off.
+use mathlib.Core.List.{List}
+use mathlib.Core.Path.{_≡_, sym, ap, _∙_}
+use Prim.Native.Nat.{ℕ, _-_}
+use native.Mathlib.Omega.{arith}
+use borrow.Author.Needs.{needs}
+use lib.Bits.{bitXor}
+use lib.ListN.{length, getD}
+use Rattle.bits.specs.Bits.{tab}
+use Rattle.bits.specs.laws.Tab.{Filled, filled-none, filled-more, filled-all}
+use Rattle.bits.specs.laws.Value.{xor-bits}
+use Rattle.parity.specs.Drawing.{readOff}
+use Rattle.parity.proofs.drawing.read_off.Statement.{statement}
+use Rattle.parity.proofs.drawing.read_off.Tie as tie
+
+abbrev complement : List ℕ → ℕ → ℕ
+complement cells j = 1 - getD cells (39 - j) 0
+
+abbrev Inv-loop : tie.InvT-loop
+Inv-loop p₀ cells k₀ p k = Filled (complement cells) 40 k p
+
+abbrev μ-loop : tie.MeasureT-loop
+μ-loop p₀ cells k₀ p k = 40 - k
+
+loop-holds : tie.Need-loop-holds Inv-loop μ-loop
+loop-holds c = filled-none (complement (c .args .t1)) 40 (c .args .p .now) (c .pre .1)
+
+loop-again : tie.Need-loop-again Inv-loop μ-loop
+loop-again c =
+    let start = c .before .before in
+    let cells = start .args .t1 in
+    let l = c .before .loop in
+    let bit = start .pre .0 (39 - l .k) in
+    filled-more (complement cells) 40 (l .k) (bitXor 1 (getD cells (39 - l .k) 0)) (l .p) (l .inv) (c .loop-test .taken)
+    (xor-bits 1 (getD cells (39 - l .k) 0) (omega arith) bit ∙ omega (arith, bit))
+
+returns : tie.Need-returns Inv-loop μ-loop
+unfolding readOff
+returns c =
+    let cells = c .before .before .args .t1 in
+    let l = c .before .loop in
+    let long : length cells ≡ 40 = search needs in
+    filled-all (complement cells) 40 (l .k) (l .p) (l .inv) (c .loop-test .left) ∙ ap (λ (n : ℕ). tab n (λ j. 1 - getD cells (n - 1 - j) 0)) (sym long)
+
+pub read-off-spec : {M : Type 1} → statement M
+read-off-spec =
+    tie.close
+    (tie.spec
+    Inv-loop
+    μ-loop
+    loop-holds
+    (λ c. search needs)
+    (λ c. search needs)
+    (λ c. search needs)
+    (λ c. search needs)
+    (λ c. search needs)
+    loop-again
+    (λ c. search needs)
+    returns)
