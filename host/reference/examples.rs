@@ -6,7 +6,7 @@ use crate::model::decoding::nearest;
 use crate::model::efr;
 use crate::model::exhaustive::Pairs;
 use crate::model::missing::MISSING;
-use crate::model::polynomial::parity;
+use crate::model::polynomial::{from_bits, parity, remainder};
 use crate::model::sending_stream::sent_and_ended;
 
 /// The lines, their numbers parted by single spaces.
@@ -36,6 +36,7 @@ fn rows() -> Vec<Vec<usize>> {
     rows.push(ones_on_bursts());
     rows.push(flags_of_a_stream());
     rows.extend(of_both_kinds());
+    rows.push(cells_of_the_drawing());
     rows.push(ones_of_efr());
     rows.push(crc_of_efr());
     rows
@@ -172,6 +173,16 @@ fn of_both_kinds() -> [Vec<usize>; 2] {
     [ones_at(&facch), ones_at(&sent(&SPEECH, NO_IDENTITY, &d))]
 }
 
+/// The bits that docs/DRAWING.md follows by hand.
+const BY_HAND: [u8; 17] = [1, 0, 1, 0, 0, 0, 0, 0, 0, 0, 0, 0, 0, 0, 1, 0, 0];
+
+/// What the forty cells of the control drawing hold after those bits, cell 0 first: by division,
+/// what is left of them followed by forty zeros, the coefficient of D^0 first.
+fn cells_of_the_drawing() -> Vec<usize> {
+    let block = [&BY_HAND[..], &[0; 40]].concat();
+    numbers(&remainder(&from_bits(&block), &(CONTROL.generator)()))
+}
+
 /// The 244 bits of enhanced full rate, which count from 1, with ones at the given numbers.
 fn efr_block(numbers: &[usize]) -> Vec<u8> {
     let places: Vec<usize> = numbers.iter().map(|number| number - 1).collect();
@@ -194,21 +205,21 @@ mod tests {
     use super::*;
     use crate::model::coding::convolve;
     use crate::model::missing::disagrees;
-    use crate::model::polynomial::{from_powers, remainder};
+    use crate::model::polynomial::from_powers;
 
     #[test]
-    fn there_are_nineteen_rows() {
+    fn there_are_twenty_rows() {
         let lengths: Vec<usize> = rows().iter().map(|row| row.len()).collect();
         assert_eq!(lengths[..3], [40, 10, 36]);
         assert_eq!(lengths[9..13], [25; 4]);
-        assert_eq!(lengths[14..17], [24, 48, 48]);
-        assert_eq!(lengths[18..], [8]);
+        assert_eq!(lengths[14..18], [24, 48, 48, 40]);
+        assert_eq!(lengths[19..], [8]);
     }
 
     #[test]
     fn numbers_are_parted_by_single_spaces() {
         assert_eq!(line(&[1, 0, 182]), "1 0 182");
-        assert_eq!(lines().len(), 19);
+        assert_eq!(lines().len(), 20);
     }
 
     #[test]
@@ -302,6 +313,27 @@ mod tests {
             let (count, d) = channel.decode(NO_IDENTITY, &c, channel.reads).unwrap();
             assert_eq!((count, d[0], d[1]), (0, 1, 0), "{}", channel.name);
         }
+    }
+
+    /// The drawing itself: each bit is added to what leaves cell 39, the cells move up, and the
+    /// sum enters at the taps.
+    fn clocked(cells: &[u8], bit: u8) -> Vec<u8> {
+        let sum = (bit + cells[39]) % 2;
+        let mut next = [&[0], &cells[..39]].concat();
+        for tap in [0, 3, 17, 23, 26] {
+            next[tap] = (next[tap] + sum) % 2;
+        }
+        next
+    }
+
+    #[test]
+    fn the_drawing_holds_what_division_leaves() {
+        let one_clock = |cells: Vec<u8>, &bit: &u8| clocked(&cells, bit);
+        let after = |bits: &[u8]| bits.iter().fold(vec![0; 40], one_clock);
+        assert_eq!(numbers(&after(&BY_HAND)), cells_of_the_drawing());
+        let mut p: Vec<u8> = after(&mixed(184)).iter().map(|&cell| 1 - cell).collect();
+        p.reverse();
+        assert_eq!(numbers(&p), parity_of_mixed(&CONTROL));
     }
 
     #[test]

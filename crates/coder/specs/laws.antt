@@ -9,6 +9,7 @@ pub mod Order
 pub mod Heard
 pub mod SpeechHeard
 pub mod Restored
+pub mod Control
 pub mod SpeechRestored
 pub mod Hearings
 pub mod Promises

@@ -1,4 +1,4 @@
-// The blocks whose parity bits stand after d: control, access and SCH (000, 4.1.2, 4.6, 4.7).
+// The blocks whose parity bits stand after d and are worked out by division: access and SCH (000, 4.6, 4.7).
 use answers::Heard;
 use trellis::LONGEST;
 ghost use mathlib.Core.List.{_++_};
@@ -24,13 +24,6 @@ pub(crate) struct Format {
     pub(crate) bits: usize,
     pub(crate) coded: usize,
 }
-
-pub(crate) const CONTROL: Format = Format {
-    generator: parity::CONTROL,
-    degree: 40,
-    bits: 184,
-    coded: 456,
-};
 
 pub(crate) const ACCESS: Format = Format {
     generator: parity::ACCESS,

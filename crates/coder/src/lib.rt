@@ -1,5 +1,6 @@
 // The public face for blocks: each entry answers every length, byte value and number (01, The bench and its edges).
 mod block;
+mod control;
 mod sacch;
 mod speech;
 
@@ -85,7 +86,11 @@ pub fn send_speech(d: &[u8], c: &mut [u8]) -> Told
 pub fn send_control(d: &[u8], c: &mut [u8]) -> Told
     ensures { λ r. ⌜ Meets (controlSent (now (d .entry)) (now (c .entry))) r (now (c .exit)) ⌝ }
 {
-    send_block(block::CONTROL, 0, d, c)
+    let told = judge(d, bits::SENT, 184, c.len(), 456, 0);
+    if let Told::Done = told {
+        control::code(d, c);
+    }
+    told
 }
 
 // SACCH message: 184 bits to four bursts, 464.
@@ -128,7 +133,11 @@ pub fn receive_speech(c: &[u8], d: &mut [u8]) -> Heard
 pub fn receive_control(c: &[u8], d: &mut [u8]) -> Heard
     ensures { λ r. ⌜ Meets (controlReceived (now (c .entry)) (now (d .entry))) r (now (d .exit)) ⌝ }
 {
-    receive_block(block::CONTROL, 0, c, d)
+    let told = judge(c, bits::RECEIVED, 456, d.len(), 184, 0);
+    match told {
+        Told::Done => control::receive(c, d),
+        Told::Refused(why) => Heard::Refused(why),
+    }
 }
 
 // SACCH message received: four bursts, 464 bits, to 184.

@@ -1,5 +1,5 @@
 // A SACCH message: one control block over four bursts (000, 4.1.4, 4.1.5).
-use crate::block::CONTROL;
+use crate::control;
 use answers::Heard;
 ghost use mathlib.Core.Path.{_≡_};
 ghost use lib.ListN.{length};
@@ -16,7 +16,7 @@ pub(crate) fn code(d: &[u8], e: &mut [u8])
     ensures { λ _. ⌜ now (e .exit) ≡ sacchMessage (now (d .entry)) ⌝ }
 {
     let mut c = [0u8; 456];
-    crate::block::code(parity::CONTROL, 40, 0, d, &mut c);
+    control::code(d, &mut c);
     places::fill_four(&c, &c, 0b11111111, e);
 }
 
@@ -27,5 +27,5 @@ pub(crate) fn receive(e: &[u8], d: &mut [u8]) -> Heard
 {
     let mut c = [0u8; 456];
     places::gather_four(e, &mut c);
-    crate::block::receive(CONTROL, 0, &c, d)
+    control::receive(&c, d)
 }

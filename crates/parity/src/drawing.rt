@@ -3,23 +3,24 @@ ghost use mathlib.Core.Bool.{true};
 ghost use mathlib.Core.Path.{_≡_};
 ghost use Prim.Native.Nat.{_≤_};
 ghost use lib.Dec.{eqb};
-ghost use lib.ListN.{length};
+ghost use lib.ListN.{length, take, drop};
 ghost use Rattle.bits.specs.Bits.{Bits, both, zeros};
 ghost use Rattle.parity.specs.Division.{parity, controlG};
 ghost use Rattle.parity.specs.Drawing.{controlTaps, clocked, clockedIn, readOff};
 
-// One clock. The bit is added to what leaves cell 39. The cells move up by one, and the sum enters at the taps: here are cell 0, cell 1 and so on to
-// cell 39, each with what it then holds.
+// One clock of the register. The bit is added to what leaves cell 39; the cells move up by one; the sum enters at the taps. The forty lines are the
+// cells, from cell 0 up, and say what each then holds.
 fn clock(cells: [u8; 40], bit: u8) -> [u8; 40]
     requires { ⌜ (Bits cells) × (bit ≤ 1) ⌝ }
     ensures { λ r. ⌜ r ≡ clocked controlTaps cells bit ⌝ }
 {
-    let sum = bit ^ cells[39];
+    let leaves = cells[39];
+    let sum = bit ^ leaves;
     [
-        sum,
+        sum, // tap into cell 0
         cells[0],
         cells[1],
-        cells[2] ^ sum,
+        cells[2] ^ sum, // tap into cell 3
         cells[3],
         cells[4],
         cells[5],
@@ -33,16 +34,16 @@ fn clock(cells: [u8; 40], bit: u8) -> [u8; 40]
         cells[13],
         cells[14],
         cells[15],
-        cells[16] ^ sum,
+        cells[16] ^ sum, // tap into cell 17
         cells[17],
         cells[18],
         cells[19],
         cells[20],
         cells[21],
-        cells[22] ^ sum,
+        cells[22] ^ sum, // tap into cell 23
         cells[23],
         cells[24],
-        cells[25] ^ sum,
+        cells[25] ^ sum, // tap into cell 26
         cells[26],
         cells[27],
         cells[28],
@@ -132,12 +133,12 @@ fn same(v: &[u8], w: &[u8]) -> bool
     alike
 }
 
-// Are p the parity bits of d? They are worked out again, and compared.
-pub fn is_control(d: &[u8], p: &[u8]) -> bool
-    requires { ⌜ (Bits (now d)) × (length (now d) ≡ 184) × (length (now p) ≡ 40) ⌝ }
-    ensures { λ r. ⌜ (r ≡ true → now (p .entry) ≡ parity controlG (now (d .entry))) × (now (p .entry) ≡ parity controlG (now (d .entry)) → r ≡ true) ⌝ }
+// Are the last forty bits of w the parity bits of the 184 before them? They are worked out again, and compared.
+pub fn is_control(w: &[u8]) -> bool
+    requires { ⌜ (Bits (now w)) × (length (now w) ≡ 224) ⌝ }
+    ensures { λ r. ⌜ (r ≡ true → drop 184 (now (w .entry)) ≡ parity controlG (take 184 (now (w .entry)))) × (drop 184 (now (w .entry)) ≡ parity controlG (take 184 (now (w .entry))) → r ≡ true) ⌝ }
 {
     let mut again = [0u8; 40];
-    put_control(d, &mut again);
-    same(&again, p)
+    put_control(&w[0..184], &mut again);
+    same(&again, &w[184..224])
 }

@@ -11,10 +11,8 @@ ghost use Rattle.parity.specs.Asked.{Generates};
 ghost use Rattle.parity.specs.Division.{remainder};
 ghost use Rattle.parity.specs.laws.Brought.{broughtDown};
 
-// The generators below their leading power: D^3 + D + 1 is 011 (000, 3.1.2.1, 4.1.2, 4.6, 4.7, 3.1.1.1).
+// The generators below their leading power: D^3 + D + 1 is 011 (000, 3.1.2.1, 4.6, 4.7, 3.1.1.1).
 pub const SPEECH: u64 = 0b011;
-
-pub const CONTROL: u64 = 0x4820009;
 
 pub const ACCESS: u64 = 0b101111;
 

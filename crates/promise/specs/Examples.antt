@@ -10,6 +10,7 @@ use lib.ListN.{getD, take, drop}
 use Rattle.answers.specs.Answers.{sentOr, tells}
 use Rattle.bits.specs.Bits.{pick, both, largest, noneOver, isMissing, tab, tabFrom, add, zeros, ones, digits, value, differ}
 use Rattle.parity.specs.Division.{occurs, product, lower, divide, remainder, parity, speechG, controlG, accessG, schG}
+use Rattle.parity.specs.Drawing.{controlTaps, isTap, fedBack, fromBelow, cellAt, clocked, clockedIn}
 use Rattle.convolution.specs.Pairs.{back, first, second, codedAt, coded, pairOf}
 use Rattle.register.specs.Register.{from, bit, way, best, choice, walk}
 use Rattle.trellis.specs.Nearest.{pairCost, rowAt, nearest, nearestCount}
@@ -63,6 +64,10 @@ lent i = zeros 464
 abbrev pub flagsSent : List ℕ → List ℕ
 flagsSent e = tab 24 (λ i. getD e (116 * (i / 2) + hl + i % 2) 0)
 
+-- 02, M-104: the bits that docs/DRAWING.md follows by hand, from which the cells of the control drawing are worked out
+abbrev pub byHand : List ℕ
+byHand = 1 ∷ 0 ∷ 1 ∷ 0 ∷ 0 ∷ 0 ∷ 0 ∷ 0 ∷ 0 ∷ 0 ∷ 0 ∷ 0 ∷ 0 ∷ 0 ∷ 1 ∷ 0 ∷ 0 ∷ []
+
 unfoldable pub table : List Example
 table =
     is (take 40 (drop 184 (controlU (mixed 184)))) (1 ∷ 0 ∷ 1 ∷ 0 ∷ 0 ∷ 1 ∷ 1 ∷ 1 ∷ 1 ∷ 0 ∷ 0 ∷ 0 ∷ 0 ∷ 0 ∷ 0 ∷ 0 ∷ 1 ∷ 1 ∷ 0 ∷ 0 ∷ 1 ∷ 0 ∷ 0 ∷ 0 ∷ 1 ∷ 1 ∷ 1 ∷ 1 ∷ 1 ∷ 0 ∷ 0 ∷ 1 ∷ 1 ∷ 1 ∷ 0 ∷ 1 ∷ 1 ∷ 0 ∷ 1 ∷ 0 ∷ [])
@@ -82,8 +87,9 @@ table =
     ∷ is (flagsSent (made lent (mixed 184 ∷ mixed 260 ∷ []))) (0 ∷ 1 ∷ 0 ∷ 1 ∷ 0 ∷ 1 ∷ 0 ∷ 1 ∷ 1 ∷ 0 ∷ 1 ∷ 0 ∷ 1 ∷ 0 ∷ 1 ∷ 0 ∷ 0 ∷ 0 ∷ 0 ∷ 0 ∷ 0 ∷ 0 ∷ 0 ∷ 0 ∷ [])
     ∷ is (onesFrom 0 (controlSent facchToo (zeros 456) .left)) (0 ∷ 1 ∷ 3 ∷ 6 ∷ 7 ∷ 11 ∷ 14 ∷ 15 ∷ 16 ∷ 17 ∷ 380 ∷ 381 ∷ 383 ∷ 389 ∷ 391 ∷ 392 ∷ 393 ∷ 394 ∷ 395 ∷ 397 ∷ 398 ∷ 401 ∷ 402 ∷ 404 ∷ 406 ∷ 408 ∷ 410 ∷ 412 ∷ 414 ∷ 417 ∷ 425 ∷ 426 ∷ 427 ∷ 428 ∷ 430 ∷ 431 ∷ 435 ∷ 437 ∷ 438 ∷ 439 ∷ 440 ∷ 441 ∷ 443 ∷ 444 ∷ 447 ∷ 449 ∷ 454 ∷ 455 ∷ [])
     ∷ is (onesFrom 0 (speechSent speechToo (zeros 456) .left)) (0 ∷ 1 ∷ 3 ∷ 6 ∷ 7 ∷ 11 ∷ 14 ∷ 15 ∷ 16 ∷ 17 ∷ 380 ∷ 381 ∷ 383 ∷ 389 ∷ 391 ∷ 392 ∷ 393 ∷ 394 ∷ 395 ∷ 397 ∷ 398 ∷ 401 ∷ 402 ∷ 404 ∷ 406 ∷ 408 ∷ 410 ∷ 412 ∷ 414 ∷ 417 ∷ 425 ∷ 426 ∷ 427 ∷ 428 ∷ 430 ∷ 431 ∷ 435 ∷ 437 ∷ 438 ∷ 439 ∷ 440 ∷ 441 ∷ 443 ∷ 444 ∷ 447 ∷ 449 ∷ 454 ∷ 455 ∷ [])
+    ∷ is (clockedIn controlTaps (zeros 40) byHand) (1 ∷ 0 ∷ 0 ∷ 1 ∷ 0 ∷ 0 ∷ 0 ∷ 0 ∷ 0 ∷ 0 ∷ 0 ∷ 0 ∷ 0 ∷ 0 ∷ 1 ∷ 0 ∷ 1 ∷ 0 ∷ 0 ∷ 1 ∷ 0 ∷ 0 ∷ 0 ∷ 1 ∷ 0 ∷ 0 ∷ 1 ∷ 0 ∷ 0 ∷ 0 ∷ 0 ∷ 1 ∷ 0 ∷ 1 ∷ 0 ∷ 0 ∷ 0 ∷ 1 ∷ 0 ∷ 1 ∷ [])
     ∷ []
 
 pub examples : allHold table ≡ true
-unfolding allHold table tab tabFrom add zeros ones digits value largest noneOver isMissing occurs product lower divide remainder parity speechG controlG accessG schG back first second codedAt coded pairOf from bit way best choice walk differ pairCost rowAt nearest nearestCount placeAt bitAt flagIn cell burst four flagsOf speechP speechUAt speechU speechBlock controlU controlBlock colour accessU accessBurst schU judged entry speechSent controlSent accessSent tells sentOr blockOf freshSender sendJudged sendTold sentBursts sentNext sendAnswer endJudged endTold endBursts endAnswer afterwards sendAll made
+unfolding allHold table tab tabFrom add zeros ones digits value largest noneOver isMissing occurs product lower divide remainder parity speechG controlG accessG schG back first second codedAt coded pairOf from bit way best choice walk differ pairCost rowAt nearest nearestCount placeAt bitAt flagIn cell burst four flagsOf speechP speechUAt speechU speechBlock controlU controlBlock colour accessU accessBurst schU judged entry speechSent controlSent accessSent tells sentOr blockOf freshSender sendJudged sendTold sentBursts sentNext sendAnswer endJudged endTold endBursts endAnswer afterwards sendAll made controlTaps isTap fedBack fromBelow cellAt clocked clockedIn
 examples = refl

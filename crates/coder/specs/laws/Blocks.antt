@@ -1,4 +1,4 @@
--- What `coder::block::code` writes is the block of each channel; and how long the generators and the blocks are.
+-- What `coder::block::code` writes is the burst of each channel; and how long the generators and the blocks are.
 use mathlib.Core.List.{List, _++_}
 use mathlib.Core.Path.{_≡_, sym, ap, _∙_}
 use Prim.Native.Nat.{ℕ, _*_, _<_, _≤_, _^_}
@@ -10,7 +10,8 @@ use Rattle.bits.specs.laws.Sum.{length-zeros}
 use Rattle.bits.specs.laws.Value.{length-digits}
 use Rattle.parity.specs.Division.{parity, controlG, accessG, schG}
 use Rattle.parity.specs.laws.Division.{length-parity}
-use Rattle.parity.specs.laws.Generators.{control-number, access-number, sch-number}
+use Rattle.parity.specs.laws.Drawing.{control-long}
+use Rattle.parity.specs.laws.Generators.{access-number, sch-number}
 use Rattle.convolution.specs.Pairs.{coded}
 use Rattle.convolution.specs.laws.Pairs.{length-coded}
 use Rattle.coder.specs.Blocks.{controlU, controlBlock, colour, accessU, accessBurst, schU, schBurst, speechU, speechBlock}
@@ -19,12 +20,6 @@ use Rattle.coder.specs.laws.Format.{laidOut}
 use Rattle.coder.specs.laws.Protected.{digits-plain, digits-coloured}
 
 module _ (d : List ℕ) (bd : Bits d) where
-  pub control-is : (c : List ℕ) → c ≡ coded (laidOut 0x4820009 40 0 d) → c ≡ controlBlock d
-  unfolding controlBlock controlU
-  control-is c e =
-      e ∙ ap (λ (p : List ℕ). coded (d ++ (p ++ zeros 4)))
-      (digits-plain (digits 40 0x4820009) d bd 40 (length-digits 40 0x4820009) ∙ ap (λ (g : List ℕ). parity g d) control-number)
-
   pub sch-is : (c : List ℕ) → c ≡ coded (laidOut 0b0101110101 10 0 d) → c ≡ schBurst d
   unfolding schBurst schU
   sch-is c e =
@@ -40,9 +35,6 @@ module _ (d : List ℕ) (bd : Bits d) where
       ∙ ap (λ (g : List ℕ). add (parity g d) (digits 6 i)) access-number)
 
 -- ---- the generators' degrees
-pub control-long : length controlG ≡ 40
-control-long = ap length (sym control-number) ∙ length-digits 40 0x4820009
-
 pub sch-long : length schG ≡ 10
 sch-long = ap length (sym sch-number) ∙ length-digits 10 0b0101110101
 

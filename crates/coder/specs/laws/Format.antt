@@ -33,18 +33,12 @@ pub record Fits (f : Format) : Type 0 where
 pub identity-fits : {f : Format} {i : ℕ} → Fits f → i ≤ 63 → i < 2 ^ f .degree
 identity-fits {f} fits h = let l : 2 ^ 6 ≤ 2 ^ f .degree = pow-mono (fits .wide) in omega (arith, l, h)
 
--- ---- the three
-abbrev pub controlF : Format
-controlF = record { generator = 0x4820009; degree = 40; bits = 184; coded = 456 }
-
+-- ---- the two
 abbrev pub accessF : Format
 accessF = record { generator = 0b101111; degree = 6; bits = 8; coded = 36 }
 
 abbrev pub schF : Format
 schF = record { generator = 0b0101110101; degree = 10; bits = 25; coded = 78 }
-
-pub control-fits : Fits controlF
-control-fits = record { generates = record { some = lit< tt; narrow = lit≤ tt; below = lit< tt }; wide = lit≤ tt; short = lit≤ tt; long = refl }
 
 pub access-fits : Fits accessF
 access-fits = record { generates = record { some = lit< tt; narrow = lit≤ tt; below = lit< tt }; wide = lit≤ tt; short = lit≤ tt; long = refl }

@@ -25,7 +25,8 @@ use Rattle.coder.specs.Entries.{Given, entry, speechSent, controlSent, s
 use Rattle.coder.specs.Received.{Hearing, blockHeard, speechHeard, reception, speechReceived, controlReceived, sacchReceived, accessReceived, schReceived}
 use Rattle.coder.specs.Says.{Accepts, FindsBad}
 use Rattle.coder.specs.Promises.{altered, whole, asSent, Back, Bears, ComesBack, SpeechBears, ControlBears, SacchBears, SchBears, AccessBears, SpeechPromise, ControlPromise, SacchPromise, SchPromise, AccessPromise}
-use Rattle.coder.specs.laws.Blocks.{control-long, access-long, sch-long}
+use Rattle.parity.specs.laws.Drawing.{control-long}
+use Rattle.coder.specs.laws.Blocks.{access-long, sch-long}
 use Rattle.coder.specs.laws.Entries.{sends}
 use Rattle.coder.specs.laws.Heard.{hears-good, hears-bad}
 use Rattle.coder.specs.laws.Hearings.{control-codes, access-codes, sch-codes, message-holds, speech-hearing}

@@ -1,24 +1,20 @@
--- The generators as the code carries them, each one computed test.
+-- The generators as the code carries them, each one computed test. That of the control block is carried as its taps: laws/Drawing.
 use mathlib.Core.Path.{_≡_, refl}
 use Rattle.bits.specs.Bits.{digits, tab, tabFrom}
-use Rattle.parity.specs.Division.{occurs, product, lower, speechG, controlG, accessG, schG, efrG}
+use Rattle.parity.specs.Division.{occurs, lower, speechG, accessG, schG, efrG}
 
 pub speech-number : digits 3 0b011 ≡ speechG
-unfolding digits tab tabFrom occurs product lower speechG
+unfolding digits tab tabFrom occurs lower speechG
 speech-number = refl
 
-pub control-number : digits 40 0x4820009 ≡ controlG
-unfolding digits tab tabFrom occurs product lower controlG
-control-number = refl
-
 pub access-number : digits 6 0b101111 ≡ accessG
-unfolding digits tab tabFrom occurs product lower accessG
+unfolding digits tab tabFrom occurs lower accessG
 access-number = refl
 
 pub sch-number : digits 10 0b0101110101 ≡ schG
-unfolding digits tab tabFrom occurs product lower schG
+unfolding digits tab tabFrom occurs lower schG
 sch-number = refl
 
 pub efr-number : digits 8 0b00011101 ≡ efrG
-unfolding digits tab tabFrom occurs product lower efrG
+unfolding digits tab tabFrom occurs lower efrG
 efr-number = refl

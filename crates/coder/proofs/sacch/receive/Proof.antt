@@ -1,13 +1,8 @@
 -- `coder::sacch::receive` is right: the coded bits are gathered from the four bursts and received as a control block.
-use mathlib.Core.List.{List}
-use mathlib.Core.Path.{_≡_, ap₂, subst}
-use Prim.Native.Nat.{ℕ}
-use lib.Dec.{lit<}
+use mathlib.Core.Path.{ap, subst}
 use Rattle.answers.specs.Answers.{Meets}
 use Rattle.parity.specs.Division.{controlG}
-use Rattle.parity.specs.laws.Generators.{control-number}
 use Rattle.coder.specs.Received.{Hearing, blockHeard, hands}
-use Rattle.coder.specs.laws.Format.{control-fits}
 use Rattle.coder.specs.laws.Heard.{message-given}
 use borrow.Author.Needs.{needs}
 use Rattle.coder.proofs.sacch.receive.Statement.{statement}
@@ -17,15 +12,14 @@ receive-requires : tie.Need-receive-requires
 receive-requires c κs =
     let start = c .before .before .before .before .before .before .before in
     let got = c .before .before .before .gather-four in
-    (control-fits, message-given (start .args .e .now) (start .args .d .now) (got .last .1 .0) (start .pre .0) (start .pre .2) (got .ensures), lit< tt)
+    message-given (start .args .e .now) (start .args .d .now) (got .last .1 .0) (start .pre .0) (start .pre .2) (got .ensures)
 
 returns : tie.Need-returns
 returns c =
     let s = c .before .before .before .before .before .before .before .before .before .before .args in
     let got = c .before .before .before .before .before .before .gather-four in
     let heard = c .before .before .receive in
-    subst (λ (h : Hearing). Meets (hands h (s .d .now)) (heard .result) (heard .last .1 .1 .1 .0))
-    (ap₂ (λ (g x : List ℕ). blockHeard g 0 184 x) control-number (got .ensures)) (heard .ensures)
+    subst (λ (h : Hearing). Meets (hands h (s .d .now)) (heard .result) (heard .last .1 .0)) (ap (blockHeard controlG 0 184) (got .ensures)) (heard .ensures)
 
 pub receive-spec : {M : Type 1} → statement M
 receive-spec = tie.close (tie.spec (λ c. search needs) (λ c κs. search needs) (λ c. search needs) receive-requires (λ c. search needs) returns)

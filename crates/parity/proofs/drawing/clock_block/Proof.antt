@@ -44,9 +44,9 @@ loop-again c =
     let next : 8 * l .i + 8 ≡ 8 * (l .i + 1) = omega arith in (
       search needs,
       c .clock-octet .ensures
-      ∙ ap₂ (λ (h : List ℕ) (k : ℕ). clockedIn controlTaps h (take k (drop (8 * l .i) d))) (l .inv .1) eight
-      ∙ sym (entered-part controlTaps (zeros 40) d (8 * l .i) 8)
-      ∙ ap (λ (k : ℕ). clockedIn controlTaps (zeros 40) (take k d)) next,
+          ∙ ap₂ (λ (h : List ℕ) (k : ℕ). clockedIn controlTaps h (take k (drop (8 * l .i) d))) (l .inv .1) eight
+          ∙ sym (entered-part controlTaps (zeros 40) d (8 * l .i) 8)
+          ∙ ap (λ (k : ℕ). clockedIn controlTaps (zeros 40) (take k d)) next,
     )
 
 returns : tie.Need-returns Inv-loop μ-loop
