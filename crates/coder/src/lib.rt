@@ -14,10 +14,9 @@ ghost use lib.ListN.{length};
 ghost use Rattle.answers.specs.Answers.{Meets};
 ghost use Rattle.answers.specs.declared.Told.the-variants.{Refused};
 ghost use Rattle.bits.specs.Bits.{noneOver, both};
-ghost use Rattle.convolution.specs.Pairs.{coded};
-ghost use Rattle.coder.specs.Entries.{judged, entry, speechSent, controlSent, sacchSent, accessSent, schSent, unreached, trellisViewed};
+ghost use Rattle.coder.specs.Entries.{judged, speechSent, controlSent, sacchSent, accessSent, schSent, unreached, trellisViewed};
 ghost use Rattle.coder.specs.Received.{blockHeard, reception, speechReceived, controlReceived, sacchReceived, accessReceived, schReceived};
-ghost use Rattle.coder.specs.laws.Format.{Fits, generatorOf, laidOut};
+ghost use Rattle.coder.specs.laws.Format.{Fits, generatorOf};
 
 // The trellis view: the sixteen numbers by state; all are 65,535 where the call is refused.
 pub struct View {
@@ -47,19 +46,7 @@ fn judge(d: &[u8], most: u8, reads: usize, out: usize, writes: usize, identity: 
     Told::Done
 }
 
-// An entry for a block whose parity stands at its end, the identity added to it.
-fn send_block(f: Format, identity: u64, d: &[u8], c: &mut [u8]) -> Told
-    requires { ⌜ Fits f ⌝ }
-    ensures { λ r. ⌜ Meets (entry (f .bits) (f .coded) identity (now (d .entry)) (coded (laidOut (f .generator) (f .degree) identity (now (d .entry)))) (now (c .entry))) r (now (c .exit)) ⌝ }
-{
-    let told = judge(d, bits::SENT, f.bits, c.len(), f.coded, identity);
-    if let Told::Done = told {
-        block::code(f.generator, f.degree, identity, d, c);
-    }
-    told
-}
-
-// The same block received.
+// A block received whose parity bits, the identity added to them, are judged by division.
 fn receive_block(f: Format, identity: u64, c: &[u8], d: &mut [u8]) -> Heard
     requires { ⌜ Fits f ⌝ }
     ensures { λ r. ⌜ Meets (reception (f .coded) (f .bits) identity (now (c .entry)) (blockHeard (generatorOf f) identity (f .bits) (now (c .entry))) (now (d .entry))) r (now (d .exit)) ⌝ }
@@ -108,14 +95,22 @@ pub fn send_sacch(d: &[u8], e: &mut [u8]) -> Told
 pub fn send_access(identity: u64, d: &[u8], e: &mut [u8]) -> Told
     ensures { λ r. ⌜ Meets (accessSent identity (now (d .entry)) (now (e .entry))) r (now (e .exit)) ⌝ }
 {
-    send_block(block::ACCESS, identity, d, e)
+    let told = judge(d, bits::SENT, 8, e.len(), 36, identity);
+    if let Told::Done = told {
+        block::code(parity::ACCESS, 6, identity, d, e);
+    }
+    told
 }
 
 // SCH: 25 bits to 78.
 pub fn send_sch(d: &[u8], e: &mut [u8]) -> Told
     ensures { λ r. ⌜ Meets (schSent (now (d .entry)) (now (e .entry))) r (now (e .exit)) ⌝ }
 {
-    send_block(block::SCH, 0, d, e)
+    let told = judge(d, bits::SENT, 25, e.len(), 78, 0);
+    if let Told::Done = told {
+        block::code(parity::SCH, 10, 0, d, e);
+    }
+    told
 }
 
 // Speech block received: 456 bits to 260.

@@ -1,7 +1,7 @@
 // The control parity as the workbook draws it: a register of forty cells with feedback taps (02, M-104; docs/DRAWING.md has the drawing).
 ghost use mathlib.Core.Bool.{true};
 ghost use mathlib.Core.Path.{_≡_};
-ghost use Prim.Native.Nat.{_≤_};
+ghost use Prim.Native.Nat.{_-_, _≤_};
 ghost use lib.Dec.{eqb};
 ghost use lib.ListN.{length, take, drop};
 ghost use Rattle.bits.specs.Bits.{Bits, both, zeros};
@@ -90,6 +90,14 @@ fn clock_block(d: &[u8]) -> [u8; 40]
     cells
 }
 
+// The other bit.
+fn complement(bit: u8) -> u8
+    requires { ⌜ bit ≤ 1 ⌝ }
+    ensures { λ r. ⌜ r ≡ 1 - bit ⌝ }
+{
+    1 ^ bit
+}
+
 // What is read off the cells: the complement of each, cell 39 first.
 fn read_off(cells: [u8; 40], p: &mut [u8])
     requires { ⌜ (Bits cells) × (length (now p) ≡ 40) ⌝ }
@@ -97,7 +105,7 @@ fn read_off(cells: [u8; 40], p: &mut [u8])
 {
     let mut k = 0;
     while k < 40 {
-        p[k] = 1 ^ cells[39 - k];
+        p[k] = complement(cells[39 - k]);
         k += 1;
     }
 }

@@ -78,7 +78,7 @@ fn receive(kind: u8, c: &[u8], d: &mut [u8]) -> u32 {
         return of_heard(coder::receive_speech(c, d));
     }
     if kind == CONTROL {
-        return desk::desk_receive_control(c, d);
+        return of_heard(coder::receive_control(c, d));
     }
     if kind == SACCH {
         return of_heard(coder::receive_sacch(c, d));

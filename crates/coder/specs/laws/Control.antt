@@ -1,13 +1,13 @@
 -- What `coder::control` needs: u laid out part by part, and the verdict by working the parity bits out again.
 use mathlib.Core.Bool.{Bool, true, false}
 use mathlib.Core.List.{List, _++_}
-use mathlib.Core.Path.{_≡_, refl, sym, ap, ap₂, _∙_, subst}
-use Prim.Native.Nat.{ℕ, _+_, _-_, _*_, _≤_}
+use mathlib.Core.Path.{_≡_, refl, sym, ap, ap₂, _∙_}
+use Prim.Native.Nat.{ℕ, _+_, _-_, _≤_}
 use native.Mathlib.Omega.{arith}
 use lib.Dec.{lit≤}
 use lib.ListN.{length, take, drop, replicate, length-append}
 use lib.Seq.{drop-at, length-take-le, take-add, take-append-le, take-take}
-use Rattle.bits.specs.Bits.{Bits, Symbols, add, digits, zeros}
+use Rattle.bits.specs.Bits.{Bits, add, digits, zeros}
 use Rattle.bits.specs.laws.Parts.{put, put-three, length-lent, length-put}
 use Rattle.bits.specs.laws.Sum.{add-nothing, bits-append, bits-take, bits-drop, bits-zeros, length-zeros}
 use Rattle.bits.specs.laws.Value.{digits-none}

@@ -7,7 +7,7 @@ use lib.Dec.{eqb, leb}
 use lib.ListN.{length, getD}
 use native.Mathlib.Omega.{arith}
 use borrow.Author.Tests.{eqb-true, leb-true, eq-eqb, le-leb}
-use Rattle.bits.specs.Bits.{Bits, noneOver}
+use Rattle.bits.specs.Bits.{noneOver}
 use Rattle.bits.specs.laws.Cases.{both-first, both-second}
 use Rattle.bits.specs.laws.Check.{none-over, over-none}
 use Rattle.bits.specs.laws.Tab.{at-tab}
@@ -66,16 +66,6 @@ done most n m i d c h g = rw (eq-eqb (length d) n (g .reads), eq-eqb (length c) 
 pub sends : (n m i : ℕ) (d c : List ℕ) → i ≤ 63 → Given 1 n m d c → (sent : List ℕ) → entry n m i d sent c ≡ record { result = Done; left = sent }
 unfolding entry tells sentOr
 sends n m i d c h g sent = ap (λ (t : Told). tells t sent c) (done 1 n m i d c h g)
-
--- an entry that is done read bits: so it may send what is the same for bits
-pub same-sent : (n m i : ℕ) (d x y c : List ℕ) (r : Told) (after : List ℕ) → (Bits d → i ≤ 63 → x ≡ y)
-    → Meets (entry n m i d x c) r after → Meets (entry n m i d y c) r after
-unfolding entry tells sentOr
-same-sent n m i d x y c r after same met = record { result = met .result; left = met .left ∙ by-told (judged (lengths d n c m) (noneOver 1 d) (leb i 63)) refl }
-  where
-    by-told : (t : Told) → judged (lengths d n c m) (noneOver 1 d) (leb i 63) ≡ t → sentOr t x c ≡ sentOr t y c
-    by-told Done e = same (done-given 1 d c n m i Done (sym e) refl .bits) (done-identity 1 d c n m i Done (sym e) refl)
-    by-told (Refused z) e = refl
 
 -- ---- the two ways in which the trellis view ends
 module _ (r : List ℕ) where

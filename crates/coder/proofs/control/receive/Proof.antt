@@ -1,6 +1,5 @@
 -- `coder::control::receive` is right: the nearest block is judged by working its parity bits out again, and handed over where they are there.
 use mathlib.Core.Path.{refl, _∙_}
-use native.Mathlib.Omega.{arith}
 use borrow.Author.Needs.{needs}
 use lib.Dec.{lit≤}
 use Rattle.parity.specs.Division.{controlG}

@@ -6,7 +6,6 @@ use native.Mathlib.Omega.{arith}
 use borrow.Author.Needs.{needs}
 use lib.ListN.{length, take, drop, length-drop}
 use lib.Seq.{length-take-le, take-all}
-use Rattle.bits.specs.Bits.{Bits}
 use Rattle.bits.specs.laws.Parts.{length-lent}
 use Rattle.bits.specs.laws.Sum.{bits-take}
 use Rattle.parity.specs.Division.{controlG}
