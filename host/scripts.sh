@@ -360,5 +360,5 @@ test_scripts() {
     try_page docs/LESSON.md
     try_page docs/DRAWING.md
     try_script "the clocks of docs/DRAWING.md are those of the kit" drawing_as_run docs/DRAWING.md "$room"
-    try_script "the code has the lines that docs/DRAWING.md quotes" lines_in_code docs/DRAWING.md crates/parity/src/drawing.rt
+    try_script "the code has the lines that docs/DRAWING.md quotes" lines_in_code docs/DRAWING.md crates/drawing/src/lib.rt
 }

@@ -16,7 +16,7 @@ fn lay_out(d: &[u8], u: &mut [u8])
     ensures { λ _. ⌜ now (u .exit) ≡ controlU (now (d .entry)) ⌝ }
 {
     bits::copy(d, &mut u[0..184]);
-    parity::put_control(d, &mut u[184..224]);
+    drawing::put_control(d, &mut u[184..224]);
     bits::fill(0, &mut u[224..228]);
 }
 
@@ -37,7 +37,7 @@ pub(crate) fn receive(c: &[u8], d: &mut [u8]) -> Heard
 {
     let mut u = [0u8; LONGEST];
     let count = trellis::nearest(c, 228, &mut u);
-    if parity::is_control(&u[0..224]) {
+    if drawing::is_control(&u[0..224]) {
         bits::copy(&u[0..184], d);
         return Heard::Good(count);
     }

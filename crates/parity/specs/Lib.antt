@@ -1,4 +1,3 @@
 pub mod Division
 pub mod Asked
-pub mod Drawing
 pub mod laws

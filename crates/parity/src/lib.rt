@@ -1,8 +1,4 @@
-// Division of bits by a generator polynomial, on which all parity bits stand (01, Coding rules); and the control parity as it is drawn.
-mod drawing;
-
-pub use drawing::is_control;
-pub use drawing::put_control;
+// Division of bits by a generator polynomial, on which all parity bits stand (01, Coding rules).
 ghost use mathlib.Core.Path.{_≡_};
 ghost use Prim.Native.Nat.{_≤_, _<_, _^_};
 ghost use lib.ListN.{length};

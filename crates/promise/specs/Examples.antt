@@ -10,7 +10,7 @@ use lib.ListN.{getD, take, drop}
 use Rattle.answers.specs.Answers.{sentOr, tells}
 use Rattle.bits.specs.Bits.{pick, both, largest, noneOver, isMissing, tab, tabFrom, add, zeros, ones, digits, value, differ}
 use Rattle.parity.specs.Division.{occurs, product, lower, divide, remainder, parity, speechG, controlG, accessG, schG}
-use Rattle.parity.specs.Drawing.{controlTaps, isTap, fedBack, fromBelow, cellAt, clocked, clockedIn}
+use Rattle.drawing.specs.Drawing.{controlTaps, isTap, fedBack, fromBelow, cellAt, clocked, clockedIn}
 use Rattle.convolution.specs.Pairs.{back, first, second, codedAt, coded, pairOf}
 use Rattle.register.specs.Register.{from, bit, way, best, choice, walk}
 use Rattle.trellis.specs.Nearest.{pairCost, rowAt, nearest, nearestCount}

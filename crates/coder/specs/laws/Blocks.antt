@@ -10,8 +10,7 @@ use Rattle.bits.specs.laws.Sum.{length-zeros}
 use Rattle.bits.specs.laws.Value.{length-digits}
 use Rattle.parity.specs.Division.{parity, controlG, accessG, schG}
 use Rattle.parity.specs.laws.Division.{length-parity}
-use Rattle.parity.specs.laws.Drawing.{control-long}
-use Rattle.parity.specs.laws.Generators.{access-number, sch-number}
+use Rattle.parity.specs.laws.Generators.{control-long, access-number, sch-number}
 use Rattle.convolution.specs.Pairs.{coded}
 use Rattle.convolution.specs.laws.Pairs.{length-coded}
 use Rattle.coder.specs.Blocks.{controlU, controlBlock, colour, accessU, accessBurst, schU, schBurst, speechU, speechBlock}

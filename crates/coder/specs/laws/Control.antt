@@ -13,7 +13,7 @@ use Rattle.bits.specs.laws.Sum.{add-nothing, bits-append, bits-take, bits-drop,
 use Rattle.bits.specs.laws.Value.{digits-none}
 use Rattle.parity.specs.Division.{remainder, parity, controlG}
 use Rattle.parity.specs.laws.Division.{length-parity, bits-parity, parity-leaves, parity-only}
-use Rattle.parity.specs.laws.Drawing.{control-long}
+use Rattle.parity.specs.laws.Generators.{control-long}
 use Rattle.trellis.specs.Nearest.{Candidate, nearest, nearestCount}
 use Rattle.trellis.specs.laws.Nearest.{nearest-is}
 use Rattle.coder.specs.Blocks.{controlU}

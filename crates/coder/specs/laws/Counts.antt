@@ -7,7 +7,7 @@ use lib.ListN.{length, take}
 use Rattle.parity.specs.Division.{controlG}
 use Rattle.trellis.specs.laws.Nearest.{count-most}
 use Rattle.coder.specs.Received.{blockHeard, speechHeard}
-use Rattle.parity.specs.laws.Drawing.{control-long}
+use Rattle.parity.specs.laws.Generators.{control-long}
 
 pub control-most : (c : List ℕ) → blockHeard controlG 0 184 c .count ≤ 456
 unfolding blockHeard

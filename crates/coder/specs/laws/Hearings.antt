@@ -17,7 +17,7 @@ use Rattle.trellis.specs.Nearest.{disagreements, longest}
 use Rattle.convolution.specs.Pairs.{coded}
 use Rattle.coder.specs.Blocks.{controlU, controlBlock, sacchMessage, colour, accessU, accessBurst, schU, schBurst, speechBlock}
 use Rattle.coder.specs.Received.{Hearing, blockHeard, speechHeard}
-use Rattle.parity.specs.laws.Drawing.{control-long}
+use Rattle.parity.specs.laws.Generators.{control-long}
 use Rattle.coder.specs.laws.Blocks.{access-long, control-size, speech-pairs}
 use Rattle.coder.specs.laws.Order.{sacch-bit}
 use Rattle.coder.specs.laws.Restored.{coloured, restored-bits, restored-count, restored-good}

@@ -33,7 +33,7 @@ use Rattle.coder.specs.Blocks.{speechBlock, controlBlock, sacchMessage, 
 use Rattle.coder.specs.Entries.{judged, lengths, Given, entry, viewLength, unreached, speechSent, controlSent, sacchSent, accessSent, schSent, trellisViewed}
 use Rattle.coder.specs.Received.{Hearing, speechDAt, blockHeard, speechHeard, judgedHearing, reception, speechReceived, controlReceived, sacchReceived, accessReceived, schReceived}
 use Rattle.coder.specs.Says.{Refusing, Sends, SpeechSends, ControlSends, SacchSends, AccessSends, SchSends, Decodes, blockWord, BlockDecodes, speechD, speechWord, SpeechDecodes, Accepts, FindsBad, Receives, SpeechReceives, ControlReceives, SacchReceives, AccessReceives, SchReceives, Views}
-use Rattle.parity.specs.laws.Drawing.{control-long}
+use Rattle.parity.specs.laws.Generators.{control-long}
 use Rattle.coder.specs.laws.Blocks.{access-long, sch-long}
 use Rattle.coder.specs.laws.Entries.{done-held, done-given, done-identity, sends, view-fewest}
 use Rattle.coder.specs.laws.Heard.{hears-good, hears-bad}

@@ -1,7 +1,12 @@
--- The generators as the code carries them, each one computed test. That of the control block is carried as its taps: laws/Drawing.
+-- The generators as the code carries them, each one computed test. That of the control block is carried as the taps of its drawing (drawing,
+-- `control-taps`); here is its degree.
+use mathlib.Core.List.{[], _∷_}
 use mathlib.Core.Path.{_≡_, refl}
+use Prim.Native.Nat.{_-_, _%_}
+use lib.ListN.{length}
 use Rattle.bits.specs.Bits.{digits, tab, tabFrom}
-use Rattle.parity.specs.Division.{occurs, lower, speechG, accessG, schG, efrG}
+use Rattle.bits.specs.laws.Tab.{length-tab}
+use Rattle.parity.specs.Division.{occurs, product, lower, speechG, controlG, accessG, schG, efrG}
 
 pub speech-number : digits 3 0b011 ≡ speechG
 unfolding digits tab tabFrom occurs lower speechG
@@ -18,3 +23,7 @@ sch-number = refl
 pub efr-number : digits 8 0b00011101 ≡ efrG
 unfolding digits tab tabFrom occurs lower efrG
 efr-number = refl
+
+pub control-long : length controlG ≡ 40
+unfolding controlG lower
+control-long = length-tab 40 (λ k. occurs (39 - k) (product (23 ∷ 0 ∷ []) (17 ∷ 3 ∷ 0 ∷ [])) % 2)

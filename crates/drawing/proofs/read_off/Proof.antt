@@ -1,4 +1,4 @@
--- `parity::drawing::read_off` is right: after k turns the first k places are read off.
+-- `drawing::read_off` is right: after k turns the first k places are read off.
 use mathlib.Core.List.{List}
 use mathlib.Core.Path.{_≡_, sym, ap, _∙_}
 use Prim.Native.Nat.{ℕ, _-_}
@@ -6,9 +6,9 @@ use borrow.Author.Needs.{needs}
 use lib.ListN.{length, getD}
 use Rattle.bits.specs.Bits.{tab}
 use Rattle.bits.specs.laws.Tab.{Filled, filled-none, filled-more, filled-all}
-use Rattle.parity.specs.Drawing.{readOff}
-use Rattle.parity.proofs.drawing.read_off.Statement.{statement}
-use Rattle.parity.proofs.drawing.read_off.Tie as tie
+use Rattle.drawing.specs.Drawing.{readOff}
+use Rattle.drawing.proofs.read_off.Statement.{statement}
+use Rattle.drawing.proofs.read_off.Tie as tie
 
 abbrev turned : List ℕ → ℕ → ℕ
 turned cells j = 1 - getD cells (39 - j) 0

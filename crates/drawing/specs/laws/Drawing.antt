@@ -16,10 +16,10 @@ use Rattle.bits.specs.laws.Cases.{lt-or-le}
 use Rattle.bits.specs.laws.Sum.{add-nothing, at-add, at-zeros, bits-append, bits-cons, bits-zeros, length-add, length-ones, length-zeros}
 use Rattle.bits.specs.laws.Tab.{at-left, at-right, at-tab, bits-tab, is-tab, length-tab, tab-same}
 use Rattle.bits.specs.laws.Value.{xor-bits}
 use Rattle.parity.specs.Division.{occurs, product, lower, remainder, divide, parity, crc, controlG, accessG}
-use Rattle.parity.specs.Drawing.{controlTaps, isTap, fedBack, fromBelow, cellAt, clocked, clockedIn, readOff}
+use Rattle.drawing.specs.Drawing.{controlTaps, isTap, fedBack, fromBelow, cellAt, clocked, clockedIn, readOff}
 use Rattle.parity.specs.laws.Brought.{bringDown, length-bring, remainder-more}
 use Rattle.parity.specs.laws.Division.{remainder-after, parity-turned, length-crc, bits-crc}
 
 -- ---- an example over D^3 + D + 1, three cells with taps into cells 0 and 1: three bits enter, and what is read off is their parity
 three-clocks : clockedIn (0 ∷ 1 ∷ []) (zeros 3) (1 ∷ 0 ∷ 1 ∷ []) ≡ 0 ∷ 0 ∷ 1 ∷ []
@@ -34,10 +34,6 @@ their-parity = refl
 pub control-taps : lower 40 controlTaps ≡ controlG
 unfolding controlTaps controlG lower product occurs tab tabFrom
 control-taps = refl
-
-pub control-long : length controlG ≡ 40
-unfolding controlG lower
-control-long = length-tab 40 (λ k. occurs (39 - k) (product (23 ∷ 0 ∷ []) (17 ∷ 3 ∷ 0 ∷ [])) % 2)
 
 access-taps : lower 6 (0 ∷ 1 ∷ 2 ∷ 3 ∷ 5 ∷ []) ≡ accessG
 unfolding accessG lower occurs tab tabFrom

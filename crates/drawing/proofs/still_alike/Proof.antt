@@ -1,10 +1,10 @@
--- `parity::drawing::still_alike` is right: it asks for both.
+-- `drawing::still_alike` is right: it asks for both.
 use mathlib.Core.Bool.{Bool}
 use mathlib.Core.Path.{sym, ap}
 use borrow.Author.Tests.{eq-eqb, ne-eqb}
 use Rattle.bits.specs.Bits.{both}
-use Rattle.parity.proofs.drawing.still_alike.Statement.{statement}
-use Rattle.parity.proofs.drawing.still_alike.Tie as tie
+use Rattle.drawing.proofs.still_alike.Statement.{statement}
+use Rattle.drawing.proofs.still_alike.Tie as tie
 
 returns : tie.Need-returns
 returns c = let a = c .before .args in sym (ap (λ (t : Bool). both t (a .alike)) (eq-eqb (a .a) (a .b) (c .if1 .taken)))

@@ -1,4 +1,4 @@
--- `parity::drawing::clock_block` is right: after i turns the first i octets have entered.
+-- `drawing::clock_block` is right: after i turns the first i octets have entered.
 use mathlib.Core.List.{List}
 use mathlib.Core.Path.{_≡_, refl, sym, ap, ap₂, _∙_, subst}
 use Prim.Native.Nat.{ℕ, _+_, _-_, _*_, _≤_}
@@ -9,10 +9,10 @@ use lib.Seq.{take-all}
 use Rattle.bits.specs.Bits.{Bits, zeros}
 use Rattle.bits.specs.laws.Parts.{length-lent}
 use Rattle.bits.specs.laws.Sum.{bits-drop, bits-take, bits-zeros}
-use Rattle.parity.specs.Drawing.{controlTaps, clockedIn}
-use Rattle.parity.specs.laws.Drawing.{bits-entered, entered-part}
-use Rattle.parity.proofs.drawing.clock_block.Statement.{statement}
-use Rattle.parity.proofs.drawing.clock_block.Tie as tie
+use Rattle.drawing.specs.Drawing.{controlTaps, clockedIn}
+use Rattle.drawing.specs.laws.Drawing.{bits-entered, entered-part}
+use Rattle.drawing.proofs.clock_block.Statement.{statement}
+use Rattle.drawing.proofs.clock_block.Tie as tie
 
 abbrev Inv-loop : tie.InvT-loop
 Inv-loop d cells₀ i₀ cells i = (i ≤ 23) × (cells ≡ clockedIn controlTaps (zeros 40) (take (8 * i) d))

@@ -1,14 +1,14 @@
--- `parity::drawing::clock` is right: each cell holds what moved up into it, with the sum where a tap leads in.
+-- `drawing::clock` is right: each cell holds what moved up into it, with the sum where a tap leads in.
 use mathlib.Core.Path.{refl}
 use borrow.Author.Needs.{needs}
 use lib.Bits.{bitXor}
 use lib.ListN.{getD}
 use Rattle.bits.specs.Bits.{tabFrom}
 use Rattle.parity.specs.Division.{occurs}
-use Rattle.parity.specs.Drawing.{controlTaps, isTap, fromBelow}
-use Rattle.parity.specs.laws.Drawing.{clock-is}
-use Rattle.parity.proofs.drawing.clock.Statement.{statement}
-use Rattle.parity.proofs.drawing.clock.Tie as tie
+use Rattle.drawing.specs.Drawing.{controlTaps, isTap, fromBelow}
+use Rattle.drawing.specs.laws.Drawing.{clock-is}
+use Rattle.drawing.proofs.clock.Statement.{statement}
+use Rattle.drawing.proofs.clock.Tie as tie
 
 returns : tie.Need-returns
 unfolding controlTaps isTap occurs fromBelow tabFrom

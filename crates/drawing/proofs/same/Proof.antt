@@ -1,4 +1,4 @@
--- `parity::drawing::same` is right: after k turns it says whether the first k places are the same.
+-- `drawing::same` is right: after k turns it says whether the first k places are the same.
 use mathlib.Core.Bool.{Bool, true}
 use mathlib.Core.List.{List}
 use mathlib.Core.Path.{_≡_, refl, sym, ap, _∙_, subst}
@@ -12,8 +12,8 @@ use lib.ListN.{length, getD}
 use lib.Seq.{ext-getD}
 use Rattle.bits.specs.Bits.{allBelow, both}
 use Rattle.bits.specs.laws.Tab.{below}
-use Rattle.parity.proofs.drawing.same.Statement.{statement}
-use Rattle.parity.proofs.drawing.same.Tie as tie
+use Rattle.drawing.proofs.same.Statement.{statement}
+use Rattle.drawing.proofs.same.Tie as tie
 
 abbrev alike : List ℕ → List ℕ → ℕ → Bool
 alike v w i = eqb (getD v i 0) (getD w i 0)

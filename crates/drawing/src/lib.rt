@@ -5,8 +5,8 @@ ghost use Prim.Native.Nat.{_-_, _≤_};
 ghost use lib.Dec.{eqb};
 ghost use lib.ListN.{length, take, drop};
 ghost use Rattle.bits.specs.Bits.{Bits, both, zeros};
 ghost use Rattle.parity.specs.Division.{parity, controlG};
-ghost use Rattle.parity.specs.Drawing.{controlTaps, clocked, clockedIn, readOff};
+ghost use Rattle.drawing.specs.Drawing.{controlTaps, clocked, clockedIn, readOff};
 
 // One clock of the register. The bit is added to what leaves cell 39; the cells move up by one; the sum enters at the taps. The forty lines are the
 // cells, from cell 0 up, and say what each then holds.

@@ -1,12 +1,12 @@
--- `parity::drawing::put_control` is right: what is read off the cells are the parity bits, by the law of drawings.
+-- `drawing::put_control` is right: what is read off the cells are the parity bits, by the law of drawings.
 use mathlib.Core.Path.{sym, ap, _∙_, subst}
 use borrow.Author.Needs.{needs}
 use Rattle.bits.specs.Bits.{Bits, zeros}
 use Rattle.bits.specs.laws.Sum.{bits-zeros}
-use Rattle.parity.specs.Drawing.{controlTaps, readOff}
-use Rattle.parity.specs.laws.Drawing.{bits-entered, control-drawn}
-use Rattle.parity.proofs.drawing.put_control.Statement.{statement}
-use Rattle.parity.proofs.drawing.put_control.Tie as tie
+use Rattle.drawing.specs.Drawing.{controlTaps, readOff}
+use Rattle.drawing.specs.laws.Drawing.{bits-entered, control-drawn}
+use Rattle.drawing.proofs.put_control.Statement.{statement}
+use Rattle.drawing.proofs.put_control.Tie as tie
 
 read-off-requires : tie.Need-read-off-requires
 read-off-requires c κs =

@@ -1,11 +1,11 @@
--- `parity::drawing::complement` is right: the exclusive or with 1.
+-- `drawing::complement` is right: the exclusive or with 1.
 use mathlib.Core.Path.{_≡_, _∙_}
 use Prim.Native.Nat.{ℕ, _-_, _≤_}
 use native.Mathlib.Omega.{arith}
 use lib.Bits.{bitXor}
 use Rattle.bits.specs.laws.Value.{xor-bits}
-use Rattle.parity.proofs.drawing.complement.Statement.{statement}
-use Rattle.parity.proofs.drawing.complement.Tie as tie
+use Rattle.drawing.proofs.complement.Statement.{statement}
+use Rattle.drawing.proofs.complement.Tie as tie
 
 other : (b : ℕ) → b ≤ 1 → bitXor 1 b ≡ 1 - b
 other b h = xor-bits 1 b (omega arith) h ∙ omega (arith, h)

@@ -1,4 +1,4 @@
--- `parity::drawing::clock_octet` is right: after i turns the first i bits have entered.
+-- `drawing::clock_octet` is right: after i turns the first i bits have entered.
 use mathlib.Core.List.{List}
 use mathlib.Core.Path.{_≡_, refl, sym, ap, _∙_, subst}
 use Prim.Native.Nat.{ℕ, _-_, _≤_, _<_}
@@ -7,10 +7,10 @@ use borrow.Author.Needs.{needs}
 use lib.ListN.{length, getD, take}
 use lib.Seq.{take-all}
 use Rattle.bits.specs.Bits.{Bits}
-use Rattle.parity.specs.Drawing.{controlTaps, clocked, clockedIn}
-use Rattle.parity.specs.laws.Drawing.{bits-entered, entered-more}
-use Rattle.parity.proofs.drawing.clock_octet.Statement.{statement}
-use Rattle.parity.proofs.drawing.clock_octet.Tie as tie
+use Rattle.drawing.specs.Drawing.{controlTaps, clocked, clockedIn}
+use Rattle.drawing.specs.laws.Drawing.{bits-entered, entered-more}
+use Rattle.drawing.proofs.clock_octet.Statement.{statement}
+use Rattle.drawing.proofs.clock_octet.Tie as tie
 
 abbrev Inv-loop : tie.InvT-loop
 Inv-loop octet held₀ i₀ held i = (i ≤ 8) × (held ≡ clockedIn controlTaps held₀ (take i octet))

@@ -1,4 +1,4 @@
--- `parity::drawing::is_control` is right: the bits that are worked out again are the parity bits.
+-- `drawing::is_control` is right: the bits that are worked out again are the parity bits.
 use mathlib.Core.List.{List}
 use mathlib.Core.Path.{_≡_, refl, sym, ap, _∙_}
 use Prim.Native.Nat.{ℕ}
@@ -8,11 +8,11 @@ use lib.ListN.{length, take, drop, length-drop}
 use lib.Seq.{length-take-le, take-all}
 use Rattle.bits.specs.laws.Parts.{length-lent}
 use Rattle.bits.specs.laws.Sum.{bits-take}
 use Rattle.parity.specs.Division.{controlG}
 use Rattle.parity.specs.laws.Division.{length-parity}
-use Rattle.parity.specs.laws.Drawing.{control-long}
-use Rattle.parity.proofs.drawing.is_control.Statement.{statement}
-use Rattle.parity.proofs.drawing.is_control.Tie as tie
+use Rattle.parity.specs.laws.Generators.{control-long}
+use Rattle.drawing.proofs.is_control.Statement.{statement}
+use Rattle.drawing.proofs.is_control.Tie as tie
 
 put-control-requires : tie.Need-put-control-requires
 put-control-requires c κs =
