@@ -1,6 +1,6 @@
-# 01's handbook examples that are run and not proved, that of the flags as 02 has it (M-101), what 02 says of missing bits (M-102) and of enhanced
-# full rate (M-103), and what the table of refusals says of a lent buffer, as kit lines: LINE => ANSWER, the answers typed from the papers. Sourced,
-# by POSIX sh.
+# 01's handbook examples that are run and not proved, that of the flags as 02 has it (M-101), what 02 says of missing bits (M-102), of enhanced
+# full rate (M-103) and of the identity that a burst names (M-105), and what the table of refusals says of a lent buffer, as kit lines:
+# LINE => ANSWER, the answers typed from the papers. Sourced, by POSIX sh.
 
 sevens() { zeros "$1" | tr 0 7; } # COUNT
 
@@ -120,6 +120,29 @@ efr_lines() {
     say "lend 244 7 efr? $(zeros 456) => refused 8 0 $(sevens 244)"
     say "lend 260 7 efr? $(ones_at 456 $pairs $parity) => refused 1 $(sevens 260)"
     say "send $(zeros 244) => refused 1"
+}
+
+# Whose a burst was: the colour bits u(8)..u(13) of the nearest block, and added to them the parity of its bits u(0)..u(7), are the identity, its
+# highest bit first. 000, 4.6: those eight bits and their parity, divided by D^6+D^5+D^3+D^2+D+1, leave all ones.
+whose_lines() {
+    # the nearest block is all 0: the parity is 111111, the colour bits are 000000
+    for bits in "$(zeros 36)" "$(twos 36)"; do say "whose $bits => 63 0"; done
+    # The nearest block has u(0) = 1 and the rest 0. D^7 leaves D^5+D^4+1 and D^8 leaves D^3+D^2+1, so that D^13 = D^5 D^8 leaves what D^8+D^7+D^5
+    # does: D^4+D^3+D^2, which is 011100. The parity makes it all ones: it is 100011, and with the colour bits 000000 that is 35.
+    four_set=1101001$(zeros 29)
+    say "whose $four_set => 35 3"
+    say "access? 35 $four_set => 3 1$(zeros 7)"
+    for identity in 0 34 49 63; do say "access? $identity $four_set => refused 8 3"; done
+    # the burst of identity 7 for 01101001; its third bit, its eighteenth and its thirty-first altered; the burst of identity 0 for eight zeros
+    say "access 7 01101001 => 001110010001110010001100010011110000"
+    say "whose 001110010001110010001100010011110000 => 7 0"
+    say "whose 000110010001110011001100010011010000 => 7 3"
+    say "whose 000000000000000011101001101001000011 => 0 0"
+    for bits in '' 3 "$(zeros 35)" "$(zeros 37)" "$(zeros 34)3"; do say "whose $bits => refused 1"; done
+    say "whose $(zeros 35)3 => refused 2"
+    # it writes nothing, and is lent nothing
+    for bits in "$(zeros 36)" "$(zeros 35)" "$(zeros 35)3"; do say "lend 8 7 whose $bits => ?"; done
+    say "whose => ?"
 }
 
 # The bursts of a stream of one block.

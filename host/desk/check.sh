@@ -1,23 +1,25 @@
 # The desk program beside the independent reference, on text files from Windows, on hostile input and where nobody takes its
-# answers; the C hosts that pass identities of several types, give every reason and measure the stack; the program that README.md
-# prints. Sourced by POSIX sh after host/setup.sh, where good and bad tell of what passed and what failed.
+# answers; whose a burst was that it refuses; the C hosts that pass identities of several types, give every reason and measure the
+# stack; the program that README.md prints. Sourced by POSIX sh after host/setup.sh, where good and bad tell of what passed and what
+# failed.
 
 carriage_return=$(printf '\r')
 
 # The desk program's answers in the kit's words, which are the reference's.
 in_kit_words() {
     sed -E -e 's/^good, ([0-9]+) in disagreement: ([01]+)$/\1 \2/' \
-        -e 's/^(refused 1): a buffer has the wrong length, (access|control)[?]? reads [0-9]+ bits$/\1/' \
+        -e 's/^identity ([0-9]+), ([0-9]+) in disagreement$/\1 \2/' \
+        -e 's/^(refused 1): a buffer has the wrong length, ((access|control)[?]?|whose) reads [0-9]+ bits$/\1/' \
         -e 's/^(refused 2): a bit is neither 0 nor 1, nor 2 for missing on reception$/\1/' \
         -e 's/^(refused 3): the identity is over 63$/\1/' \
-        -e 's/^(refused 8): the parity is bad, ([0-9]+) in disagreement$/\1 \2/' \
+        -e 's/^(refused 8): the parity is bad, ([0-9]+) in disagreement(, the nearest burst is for identity [0-9]+)?$/\1 \2/' \
         -e 's/^[?] write one of: .*/?/'
 }
 
 # Of kit lines, those of the desk's verbs that both read alike: the kit reads up to 1,000 bytes of line and five digits of number,
 # the desk reads on. Carriage returns at the end of a line have checks of their own.
 read_alike() { # REFERENCE ROOM
-    LC_ALL=C grep -aE '^(access|control)[?]?( |$)' | LC_ALL=C grep -av "$carriage_return\$" >"$2/ours"
+    LC_ALL=C grep -aE '^(access|control|whose)[?]?( |$)' | LC_ALL=C grep -av "$carriage_return\$" >"$2/ours"
     "$1" answer <"$2/ours" >"$2/want"
     paste -d '|' "$2/want" "$2/ours" | LC_ALL=C grep -avE '^[?][|](access[?]? [0-9]{5,} |.{1001})' | cut -d '|' -f 2-
 }
@@ -38,7 +40,7 @@ as_text() { # plain|Windows
     esac
 }
 
-# Made lines; of the six verbs two are the desk's, so that a quarter of the lines at least must be left.
+# Made lines; of the six channels two are the desk's, and so are most lines of make-whose, so that a quarter of the lines at least must be left.
 compare_desk() { # DESK REFERENCE ROOM MAKER SEED COUNT plain|Windows
     "$2" "$4" "$5" "$6" | read_alike "$2" "$3" >"$3/lines"
     as_text "$7" <"$3/lines" >"$3/text"
@@ -64,7 +66,7 @@ twin_lines() {
     done
     # Lengths round what the desk keeps of a field, and those that a byte or two would cut to the right ones.
     for length in 1023 1024 1025 1032 1060 1208 1480 65544 65572 65720 65992; do
-        for words in control 'control?' 'access 63' 'access? 63' 'access 64'; do say "$words $(zeros $length)|$words 0"; done
+        for words in control 'control?' 'access 63' 'access? 63' 'access 64' whose; do say "$words $(zeros $length)|$words 0"; done
     done
 }
 
@@ -126,33 +128,60 @@ check_returns_and_marks() { # DESK ROOM
     fi
 }
 
+# Beside every refusal 8 of access?, and nowhere else, the desk says whose the burst was: as the reference names it for the same bits. Such
+# refusals must be among the lines.
+says_whose() { # DESK REFERENCE ROOM
+    "$2" answer <"$3/lines" >"$3/answers"
+    paste -d '|' "$3/answers" "$3/lines" | LC_ALL=C sed -nE 's/^refused 8 [0-9]+[|]access[?] [0-9]+ /whose /p' >"$3/questions"
+    "$2" answer <"$3/questions" >"$3/names"
+    sed -E 's/^([0-9]+) ([0-9]+)$/refused 8: the parity is bad, \2 in disagreement, the nearest burst is for identity \1/' "$3/names" >"$3/want"
+    run_host "$1" <"$3/lines" >"$3/said" || return 1
+    LC_ALL=C grep -a 'nearest burst' "$3/said" >"$3/got"
+    [ -s "$3/want" ] && cmp "$3/got" "$3/want"
+}
+
+check_whose() { # DESK REFERENCE ROOM MAKER SEED COUNT
+    "$2" "$4" "$5" "$6" | read_alike "$2" "$3" >"$3/lines"
+    if says_whose "$1" "$2" "$3"; then
+        good "desk says whose the burst was beside $(wc -l <"$3/want") refusals on lines of $4, seed $5"
+    else
+        bad "desk does not say as the reference whose a refused burst was, on lines of $4, seed $5"
+    fi
+}
+
 # What the desk says of each refusal of each verb: LINE => ANSWER.
 refused_lines() {
     say "access 64 0000000 => refused 1: a buffer has the wrong length, access reads 8 bits"
     say "access? 64 $(zeros 35) => refused 1: a buffer has the wrong length, access? reads 36 bits"
     say "control $(zeros 185) => refused 1: a buffer has the wrong length, control reads 184 bits"
     say "control? 2 => refused 1: a buffer has the wrong length, control? reads 456 bits"
+    say "whose $(zeros 34)3 => refused 1: a buffer has the wrong length, whose reads 36 bits"
     say "access 64 0000000x => refused 2: a bit is neither 0 nor 1, nor 2 for missing on reception"
     say "access 7 00000002 => refused 2: a bit is neither 0 nor 1, nor 2 for missing on reception"
     say "access? 64 $(zeros 35)3 => refused 2: a bit is neither 0 nor 1, nor 2 for missing on reception"
     say "control $(zeros 183)2 => refused 2: a bit is neither 0 nor 1, nor 2 for missing on reception"
     say "control? $(zeros 455)3 => refused 2: a bit is neither 0 nor 1, nor 2 for missing on reception"
     say "control? $(zeros 455)x => refused 2: a bit is neither 0 nor 1, nor 2 for missing on reception"
+    say "whose $(zeros 35)3 => refused 2: a bit is neither 0 nor 1, nor 2 for missing on reception"
     say "access 64 00000000 => refused 3: the identity is over 63"
     say "access? 64 $(zeros 36) => refused 3: the identity is over 63"
-    say "access? 12 000110010001110011001100010011010000 => refused 8: the parity is bad, 3 in disagreement"
+    say "access? 12 000110010001110011001100010011010000 => refused 8: the parity is bad, 3 in disagreement, the nearest burst is for identity 7"
     say "control? $(zeros 456) => refused 8: the parity is bad, 0 in disagreement"
 }
 
 # Bits that are missing: six of a burst to bench seven, one altered and four missing, all of it, and all of a control block.
 lossy_lines() {
     say "access? 7 002112012001112010201100010011210000 => good, 0 in disagreement: 01101001"
-    say "access? 12 002112012001112010201100010011210000 => refused 8: the parity is bad, 0 in disagreement"
+    say "access? 12 002112012001112010201100010011210000 => refused 8: the parity is bad, 0 in disagreement, the nearest burst is for identity 7"
     say "access? 7 000112012001112010201100010011110000 => good, 1 in disagreement: 01101001"
     say "access? 63 $(twos 36) => good, 0 in disagreement: 00000000"
-    say "access? 62 $(twos 36) => refused 8: the parity is bad, 0 in disagreement"
+    say "access? 62 $(twos 36) => refused 8: the parity is bad, 0 in disagreement, the nearest burst is for identity 63"
     say "access? 64 $(twos 36) => refused 3: the identity is over 63"
     say "access? 63 $(twos 37) => refused 1: a buffer has the wrong length, access? reads 36 bits"
+    say "whose 002112012001112010201100010011210000 => identity 7, 0 in disagreement"
+    say "whose 000112012001112010201100010011110000 => identity 7, 1 in disagreement"
+    say "whose $(twos 36) => identity 63, 0 in disagreement"
+    say "whose $(twos 37) => refused 1: a buffer has the wrong length, whose reads 36 bits"
     say "control? $(twos 456) => refused 8: the parity is bad, 0 in disagreement"
 }
 
@@ -183,7 +212,7 @@ refusals_as_printed() { # REFUSALS ANSWERS
 # The reasons of refusals, of the lines above and of made ones.
 check_reasons() { # DESK REFERENCE ROOM README
     refused_lines >"$3/typed"
-    { sed 's/ => .*//' "$3/typed" && "$2" make-lines 5 2000 && "$2" make-received 5 2000; } >"$3/lines"
+    { sed 's/ => .*//' "$3/typed" && "$2" make-lines 5 2000 && "$2" make-received 5 2000 && "$2" make-whose 5 2000; } >"$3/lines"
     sed 's/.* => //' "$3/typed" >"$3/want"
     run_host "$1" <"$3/lines" >"$3/said"
     head -n "$(wc -l <"$3/want")" "$3/said" >"$3/got"
@@ -203,6 +232,7 @@ every_byte() {
         for (i = 0; i < 256; i++) {
             printf "control %c\naccess 0 0000000%c\naccess %c 00000000\naccess? 63 %s%c\n", i, i, i, zeros, i
             printf "access%c 0 00000000\naccess%c0 00000000\n%c\n", i, i, i
+            printf "whose %s%c\nwhose%c%s0\n", zeros, i, i, zeros
         }
     }'
 }
@@ -225,7 +255,7 @@ hostile_input() { # NAME REFERENCE
 
 # Every answer is one that is foreseen, and there is one for each line.
 answers_each_line() { # INPUT ANSWERS
-    ! in_kit_words <"$2" | LC_ALL=C grep -aqvE '^([01]+|[0-9]+ [01]+|refused [123]|refused 8 [0-9]+|[?])$' &&
+    ! in_kit_words <"$2" | LC_ALL=C grep -aqvE '^([01]+|[0-9]+ [01]+|[0-9]{1,2} [0-9]{1,2}|refused [123]|refused 8 [0-9]+|[?])$' &&
         [ "$(LC_ALL=C grep -ac '' <"$2")" -eq "$(LC_ALL=C grep -ac '' <"$1")" ]
 }
 
@@ -350,11 +380,15 @@ check_desk() { # DESK REFERENCE ROOM
     for seed in 1 2 3; do
         compare_desk "$1" "$2" "$3" make-lines "$seed" 10000 plain
         compare_desk "$1" "$2" "$3" make-received "$seed" 4000 plain
+        compare_desk "$1" "$2" "$3" make-whose "$seed" 4000 plain
+        check_whose "$1" "$2" "$3" make-received "$seed" 4000
+        check_whose "$1" "$2" "$3" make-whose "$seed" 4000
     done
     check_missing "$1" "$3"
     compare_twins "$1" "$2" "$3"
     compare_desk "$1" "$2" "$3" make-lines 4 10000 Windows
     compare_desk "$1" "$2" "$3" make-received 4 4000 Windows
+    compare_desk "$1" "$2" "$3" make-whose 4 4000 Windows
     check_returns_and_marks "$1" "$3"
     check_reasons "$1" "$2" "$3" README.md
     for name in empty blank unended endless-word endless-bits endless-number endless-spaces zero-bytes high-bytes every-byte \

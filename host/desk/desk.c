@@ -5,9 +5,10 @@
  *   access? ID BITS    receives 36 bits there:                           good, COUNT in disagreement: the 8 bits
  *   control BITS       sends 184 bits:                                   the 456 coded bits
  *   control? BITS      receives 456 bits:                                good, COUNT in disagreement: the 184 bits
+ *   whose BITS         names the identity that 36 received bits are for: identity ID, COUNT in disagreement
  *
  * COUNT is in how many of the received bits the nearest block disagrees; 2 stands for a bit that is missing, and is not counted. A refusal
- * is 'refused', its number and the reason.
+ * is 'refused', its number and the reason; where access? finds the parity bad, it is also said for which identity the burst was.
  *
  * One carriage return before a newline is passed over, and so is a byte order mark before the first line: a text file from
  * Windows is read like any other. Where an answer cannot be written or the input cannot be read, the program says why and ends
@@ -28,7 +29,7 @@ enum {
 };
 
 static const unsigned char mark[] = {0xEF, 0xBB, 0xBF}; /* the byte order mark */
-static const char usage[] = "? write one of: access ID BITS, access? ID BITS, control BITS, control? BITS";
+static const char usage[] = "? write one of: access ID BITS, access? ID BITS, control BITS, control? BITS, whose BITS";
 
 /* What stands between two spaces: its characters, and the decimal number that they make. */
 struct field {
@@ -43,21 +44,23 @@ struct line {
     struct field field[FIELDS];
 };
 
-/* A word and the call that it asks for: access has the identity before its bits, and control has none. */
+/* A word and the call that it asks for: access has the identity before its bits, and the others have none; whose writes nothing. */
 struct verb {
     const char *word;
     uint32_t (*access)(uint64_t, const uint8_t *, size_t, uint8_t *, size_t);
     uint32_t (*control)(const uint8_t *, size_t, uint8_t *, size_t);
+    uint32_t (*whose)(const uint8_t *, size_t);
     size_t reads;
     size_t writes;
     bool receives;
 };
 
 static const struct verb verbs[] = {
-    {"access", desk_send_access, NULL, DESK_ACCESS_BITS, DESK_ACCESS_CODED_BITS, false},
-    {"access?", desk_receive_access, NULL, DESK_ACCESS_CODED_BITS, DESK_ACCESS_BITS, true},
-    {"control", NULL, desk_send_control, DESK_CONTROL_BITS, DESK_CONTROL_CODED_BITS, false},
-    {"control?", NULL, desk_receive_control, DESK_CONTROL_CODED_BITS, DESK_CONTROL_BITS, true},
+    {"access", desk_send_access, NULL, NULL, DESK_ACCESS_BITS, DESK_ACCESS_CODED_BITS, false},
+    {"access?", desk_receive_access, NULL, NULL, DESK_ACCESS_CODED_BITS, DESK_ACCESS_BITS, true},
+    {"control", NULL, desk_send_control, NULL, DESK_CONTROL_BITS, DESK_CONTROL_CODED_BITS, false},
+    {"control?", NULL, desk_receive_control, NULL, DESK_CONTROL_CODED_BITS, DESK_CONTROL_BITS, true},
+    {"whose", NULL, NULL, desk_whose_access, DESK_ACCESS_CODED_BITS, 0, true},
 };
 
 /* A number with one more digit; where there is no room for it, the highest. */
@@ -211,7 +214,7 @@ static void print_bits(const uint8_t *bits, size_t length)
 }
 
 /* Prints a refusal, its reason and what else is to be said of it. */
-static void print_refusal(const struct verb *verb, uint32_t answer)
+static void print_refusal(const struct verb *verb, uint32_t answer, const uint8_t *in, size_t length)
 {
     uint32_t number = desk_number(answer);
 
@@ -222,7 +225,36 @@ static void print_refusal(const struct verb *verb, uint32_t answer)
     if (number == DESK_BAD_PARITY) {
         must_be_written(printf(", %u in disagreement", (unsigned)desk_count(answer)));
     }
+    if (number == DESK_BAD_PARITY && verb->access) {
+        uint32_t named = desk_identity(desk_whose_access(in, length));
+
+        must_be_written(printf(", the nearest burst is for identity %u", (unsigned)named));
+    }
     must_be_written(putchar('\n'));
+}
+
+/* Prints what came of a call that was done. */
+static void print_done(const struct verb *verb, uint32_t answer, const uint8_t *out)
+{
+    unsigned count = (unsigned)desk_count(answer);
+
+    if (verb->whose) {
+        must_be_written(printf("identity %u, %u in disagreement\n", (unsigned)desk_identity(answer), count));
+        return;
+    }
+    if (verb->receives) {
+        must_be_written(printf("good, %u in disagreement: ", count));
+    }
+    print_bits(out, verb->writes);
+}
+
+/* The answer of the call that the verb asks for. */
+static uint32_t answer_of(const struct verb *verb, uint64_t identity, const uint8_t *in, size_t length, uint8_t *out)
+{
+    if (verb->whose) {
+        return verb->whose(in, length);
+    }
+    return verb->access ? verb->access(identity, in, length, out, verb->writes) : verb->control(in, length, out, verb->writes);
 }
 
 /* Makes the call that the verb asks for, and prints its answer. */
@@ -233,16 +265,12 @@ static void call(const struct verb *verb, uint64_t identity, const struct field 
     uint32_t answer;
 
     read_bits(field, in);
-    answer = verb->access ? verb->access(identity, in, field->length, out, verb->writes)
-                          : verb->control(in, field->length, out, verb->writes);
+    answer = answer_of(verb, identity, in, field->length, out);
     if (desk_number(answer) != DESK_NO_REFUSAL) {
-        print_refusal(verb, answer);
-        return;
+        print_refusal(verb, answer, in, field->length);
+    } else {
+        print_done(verb, answer, out);
     }
-    if (verb->receives) {
-        must_be_written(printf("good, %u in disagreement: ", (unsigned)desk_count(answer)));
-    }
-    print_bits(out, verb->writes);
 }
 
 /* Prints the answer to a line. */
@@ -254,7 +282,7 @@ static void answer_line(const struct line *line)
         must_be_written(puts(usage));
         return;
     }
-    /* Control has its bits where access has its identity, and looks at no identity. */
+    /* The others have their bits where access has its identity, and look at no identity. */
     call(verb, line->field[1].value, &line->field[line->fields - 1]);
 }
 

@@ -1,5 +1,5 @@
 /*
- * How much stack the four calls need. Each is made on a stack of its own that was painted beforehand, and everything counts
+ * How much stack the five calls need. Each is made on a stack of its own that was painted beforehand, and everything counts
  * from the top of it to the deepest byte that is painted no longer. Good blocks, altered ones, ones with missing bits and refused
  * ones are tried; a call that needs more than desk.h says is a failure.
  *
@@ -25,11 +25,12 @@ enum {
     IDENTITY = 7                           /* to which they are sent */
 };
 
-/* One of the four calls: access has the identity before its buffers, and control has none. */
+/* One of the five calls: access has the identity before its buffers, and the others have none; whose writes nothing. */
 struct call {
     const char *name;
     uint32_t (*access)(uint64_t, const uint8_t *, size_t, uint8_t *, size_t);
     uint32_t (*control)(const uint8_t *, size_t, uint8_t *, size_t);
+    uint32_t (*whose)(const uint8_t *, size_t);
     size_t reads;
     size_t writes;
     const struct call *sender; /* whose blocks it receives; a sender has none */
@@ -37,10 +38,11 @@ struct call {
 };
 
 static const struct call calls[] = {
-    {"desk_send_access", desk_send_access, NULL, DESK_ACCESS_BITS, DESK_ACCESS_CODED_BITS, NULL, "0123"},
-    {"desk_receive_access", desk_receive_access, NULL, DESK_ACCESS_CODED_BITS, DESK_ACCESS_BITS, &calls[0], "01238"},
-    {"desk_send_control", NULL, desk_send_control, DESK_CONTROL_BITS, DESK_CONTROL_CODED_BITS, NULL, "012"},
-    {"desk_receive_control", NULL, desk_receive_control, DESK_CONTROL_CODED_BITS, DESK_CONTROL_BITS, &calls[2], "0128"},
+    {"desk_send_access", desk_send_access, NULL, NULL, DESK_ACCESS_BITS, DESK_ACCESS_CODED_BITS, NULL, "0123"},
+    {"desk_receive_access", desk_receive_access, NULL, NULL, DESK_ACCESS_CODED_BITS, DESK_ACCESS_BITS, &calls[0], "01238"},
+    {"desk_send_control", NULL, desk_send_control, NULL, DESK_CONTROL_BITS, DESK_CONTROL_CODED_BITS, NULL, "012"},
+    {"desk_receive_control", NULL, desk_receive_control, NULL, DESK_CONTROL_CODED_BITS, DESK_CONTROL_BITS, &calls[2], "0128"},
+    {"desk_whose_access", NULL, NULL, desk_whose_access, DESK_ACCESS_CODED_BITS, 0, &calls[0], "012"},
 };
 
 /* What is done on the painted stack: a call, all that it is given, and its answer. */
@@ -72,6 +74,9 @@ static void fail(const char *what)
 static uint32_t answer_of(const struct call *call, uint64_t identity, const uint8_t *in, size_t reads, uint8_t *out,
                           size_t writes)
 {
+    if (call->whose) {
+        return call->whose(in, reads);
+    }
     return call->access ? call->access(identity, in, reads, out, writes) : call->control(in, reads, out, writes);
 }
 
@@ -139,7 +144,10 @@ static void try_call(uint64_t identity, size_t reads, size_t writes)
     watch_task(0x5A);
 }
 
-/* Tries zeros, which are good to send and are received with bad parity, and then what is refused before it is looked at. */
+/*
+ * Tries zeros, which are good to send, are received with bad parity and name an identity, and then what is refused before it is looked at;
+ * whose has no identity and no output buffer that could be wrong.
+ */
 static void try_zeros(void)
 {
     const struct call *call = task.call;
@@ -173,15 +181,16 @@ static void lose(uint8_t *bits, size_t length, size_t times)
 static void try_block(size_t altered)
 {
     const struct call *call = task.call;
+    const struct call *sender = call->sender;
     uint8_t bits[LONGEST] = {0};
 
-    if (call->sender == NULL) {
+    if (sender == NULL) {
         alter(task.in, call->reads, call->reads);
         try_call(IDENTITY, call->reads, call->writes);
         return;
     }
-    alter(bits, call->writes, call->writes);
-    answer_of(call->sender, IDENTITY, bits, call->writes, task.in, call->reads);
+    alter(bits, sender->reads, sender->reads);
+    answer_of(sender, IDENTITY, bits, sender->reads, task.in, sender->writes);
     alter(task.in, call->reads, altered);
     try_call(IDENTITY, call->reads, call->writes);
     lose(task.in, call->reads, altered);

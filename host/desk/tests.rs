@@ -1,6 +1,7 @@
-//! The four calls of the proved library desk, beside the independent reference. In every call it is
+//! The five calls of the proved library desk, beside the independent reference. In every call it is
 //! also looked at what must stay: the buffer that is read, the bytes around both buffers, and on a
-//! refusal every byte of the buffer that would have been written.
+//! refusal every byte of the buffer that would have been written. The call that writes nothing has a
+//! file of its own, whose.rs.
 
 // Only a part of the reference is asked here.
 #![allow(dead_code)]
@@ -11,6 +12,7 @@
 mod chance;
 #[path = "../reference/model/mod.rs"]
 mod model;
+mod whose;
 
 use chance::lists::{self, random_bits};
 use chance::losses;
@@ -34,6 +36,7 @@ mod library {
         ) -> u32;
         fn desk_send_control(d: *const u8, d_len: usize, c: *mut u8, c_len: usize) -> u32;
         fn desk_receive_control(c: *const u8, c_len: usize, d: *mut u8, d_len: usize) -> u32;
+        fn desk_whose_access(e: *const u8, e_len: usize) -> u32;
     }
 
     pub fn send_access(identity: u64, d: &[u8], e: &mut [u8]) -> u32 {
@@ -56,10 +59,15 @@ mod library {
         // SAFETY: as in send_access.
         unsafe { desk_receive_control(c.as_ptr(), c.len(), d.as_mut_ptr(), d.len()) }
     }
+
+    pub fn whose_access(e: &[u8]) -> u32 {
+        // SAFETY: as in send_access.
+        unsafe { desk_whose_access(e.as_ptr(), e.len()) }
+    }
 }
 
-/// One of the four calls: a channel of the reference in one direction, and the library's function;
-/// control looks at no identity.
+/// One of the four calls that write: a channel of the reference in one direction, and the library's
+/// function; control looks at no identity.
 struct Call {
     name: &'static str,
     channel: Channel,
@@ -181,6 +189,7 @@ fn outcome(call: &Call, identity: u64, input: &[u8], before: &[u8]) -> Outcome {
     assert_eq!(read, framed(input), "{}: what is read stays", call.name);
     assert_eq!(lent, framed(&left), "{}: the margins stay", call.name);
     Outcome {
+        // These calls name no identity, so that nothing stands above the number.
         number: answer / 65_536,
         count: answer % 65_536,
         left,

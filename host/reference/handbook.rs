@@ -73,7 +73,7 @@ mod tests {
     fn the_words_stand_in_their_order() {
         let words = words().join(" ");
         let expected = "speech control sacch access sch efr \
-            speech? control? sacch? access? sch? efr? \
+            speech? control? sacch? access? sch? efr? whose \
             send end take totals fresh lend trellis help why";
         assert_eq!(words, expected);
     }
@@ -101,6 +101,9 @@ mod tests {
         let asked = "efr? R: of 456 received bits, 2 for a missing one, COUNT and \
                      the 244 bits of enhanced full rate of the nearest block";
         assert_eq!(help(b"efr?").as_deref(), Some(asked));
+        let whose = "whose R: of 36 received bits, 2 for a missing one, IDENTITY and COUNT: \
+                     the one identity under which access? accepts them, and its count";
+        assert_eq!(help(b"whose").as_deref(), Some(whose));
         let fresh = "fresh: fresh; both streams begin anew";
         assert_eq!(help(b"fresh").as_deref(), Some(fresh));
     }

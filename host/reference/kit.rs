@@ -8,6 +8,7 @@ use crate::model::receiving_stream::{Receiver, Taken, Totals, LENT_TO_TAKE};
 use crate::model::refusal::Refusal;
 use crate::model::sending_stream::Sender;
 use crate::model::trellis::{self, View};
+use crate::model::whose::{whose, Named};
 use crate::text::{bits, sent, told, Told};
 
 /// A line over this many bytes is not understood.
@@ -52,6 +53,13 @@ fn received(answer: Received) -> Told {
 fn viewed(answer: Result<View, Refusal>) -> Told {
     told(answer, |view| {
         Told::words(view.map(|number| number.to_string()).join(" "))
+    })
+}
+
+/// The identity and the count.
+fn named(answer: Named) -> Told {
+    told(answer, |(identity, count)| {
+        Told::words(format!("{} {}", identity, count))
     })
 }
 
@@ -149,6 +157,7 @@ impl Kit {
             // Without an argument it is the view of nothing.
             [b"trellis"] => Some(viewed(trellis::view(&[]))),
             [b"trellis", c] => Some(viewed(trellis::view(&bits(c)))),
+            [b"whose", e] => Some(named(whose(&bits(e)))),
             [b"totals"] => Some(totalled(self.receiver.totals())),
             [b"fresh"] => {
                 *self = Kit::fresh();
@@ -327,6 +336,7 @@ mod tests {
             "speech ",
             "control? ",
             "efr? ",
+            "whose ",
             "trellis ",
             "send ",
             "take 0 ",
@@ -604,6 +614,56 @@ mod tests {
     }
 
     #[test]
+    fn whose_answers_the_identity_and_the_count() {
+        answered(&[
+            ("whose {0*36}", "63 0"),
+            ("whose {2*36}", "63 0"),
+            // The nearest block has u(0) = 1 and the rest 0, and its parity is 100011.
+            ("whose 1101001{0*29}", "35 3"),
+            ("whose 000000000000000011101001101001000011", "0 0"),
+            // A burst of identity 7: as sent, three altered, six missing, one altered and four missing.
+            ("whose 001110010001110010001100010011110000", "7 0"),
+            ("whose 000110010001110011001100010011010000", "7 3"),
+            ("whose 002112012001112010201100010011210000", "7 0"),
+            ("whose 000112012001112010201100010011110000", "7 1"),
+        ]);
+    }
+
+    #[test]
+    fn whose_refuses_lengths_and_then_bytes() {
+        answered(&[
+            ("whose ", "refused 1"),
+            ("whose {0*35}", "refused 1"),
+            ("whose {0*37}", "refused 1"),
+            ("whose {0*34}3", "refused 1"),
+            ("whose {x*37}", "refused 1"),
+            ("whose {0*35}3", "refused 2"),
+            ("whose x{0*35}", "refused 2"),
+            ("whose {9*36}", "refused 2"),
+        ]);
+    }
+
+    #[test]
+    fn whose_has_one_argument_and_one_word() {
+        not_understood(&["whose", "whose  ", " whose {0*36}", "whose {0*36} "]);
+        not_understood(&["whose  {0*36}", "whose 63 {0*36}", "whose {0*36} 63"]);
+        not_understood(&["whose {0*18} {0*18}", "whose\t{0*36}", "whose{0*36}"]);
+        for word in [
+            "who", "whos", "whoses", "whose?", "?whose", "Whose", "WHOSE", "who's", "hose",
+            "who se",
+        ] {
+            not_understood(&[&format!("{} {{0*36}}", word)]);
+        }
+    }
+
+    #[test]
+    fn whose_writes_nothing_that_is_lent() {
+        not_understood(&["lend 8 7 whose {0*36}", "lend 0 7 whose {0*36}"]);
+        not_understood(&["lend 36 7 whose {0*36}", "lend 8 7 whose {0*35}"]);
+        not_understood(&["lend 8 7 whose {3*36}", "lend 8 7 whose", "lend 8 7 whose "]);
+    }
+
+    #[test]
     fn the_view_answers_sixteen_numbers() {
         answered(&[
             ("trellis 11", "2{ 65535*7} 0{ 65535*7}"),
@@ -749,6 +809,7 @@ mod tests {
             "fresh ",
             first,
             "trellis 11",
+            "whose {0*36}",
             "Fresh",
             send,
             "end ",
@@ -756,7 +817,7 @@ mod tests {
             second,
             "end",
         ]);
-        let kept = [0, 2, 5, 8, 9].map(|k| between[k].clone());
+        let kept = [0, 2, 6, 9, 10].map(|k| between[k].clone());
         assert_eq!(kept[..], alone[..]);
     }
 
@@ -977,9 +1038,10 @@ mod tests {
     fn verbs() -> Vec<String> {
         let channels = CHANNELS.map(|channel| channel.name.to_string());
         let asked = CHANNELS.map(|channel| format!("{}?", channel.name));
+        let of_access = ["whose"].map(String::from);
         let of_streams = ["send", "end", "take", "totals", "fresh"].map(String::from);
         let others = ["lend", "trellis", "help", "why"].map(String::from);
-        [&channels[..], &asked, &of_streams, &others].concat()
+        [&channels[..], &asked, &of_access, &of_streams, &others].concat()
     }
 
     #[test]
@@ -1199,6 +1261,7 @@ mod tests {
             ("speech? {0*456}", "refused 8 0"),
             ("access? 63 {0*35}1", "1 00000000"),
             ("lend 8 7 access? 63 {0*35}1", "1 00000000"),
+            ("whose {0*35}1", "63 1"),
             ("fresh ", "?"),
             ("totals ", "?"),
             ("lend 260 7 totals", "?"),

@@ -16,6 +16,7 @@
 //! reference make-ties SEED COUNT       prints COUNT kit lines of lessons in which most blocks tie
 //! reference make-missing SEED COUNT    prints COUNT kit lines of lessons in which bits are missing
 //! reference make-efr SEED COUNT        prints COUNT kit lines of enhanced full rate
+//! reference make-whose SEED COUNT      prints COUNT kit lines, most of which ask whose a burst was
 //! reference make-windows SEED COUNT    prints COUNT kit lines as a text from Windows has them
 //! reference make-full SEED             prints the kit lines of one stream of 16,383 blocks
 //! reference make-sheet SEED COUNT      prints COUNT access sheet lines
@@ -147,7 +148,7 @@ mod tests {
     }
 
     #[test]
-    fn the_seventeen_commands_are_known() {
+    fn the_eighteen_commands_are_known() {
         assert!(matches!(task_of("answer"), Some(Task::Answer)));
         assert!(matches!(task_of("sheet"), Some(Task::Sheet)));
         assert!(matches!(task_of("examples"), Some(Task::Examples)));
@@ -162,6 +163,7 @@ mod tests {
         makes("make-ties 11 1100", "make-ties", 11, 1100);
         makes("make-missing 12 1200", "make-missing", 12, 1200);
         makes("make-efr 13 1300", "make-efr", 13, 1300);
+        makes("make-whose 14 1400", "make-whose", 14, 1400);
         makes("make-windows 0 900", "make-windows", 0, 900);
         makes("make-full 3", "make-full", 3, 0);
         makes("make-sheet 8 200", "make-sheet", 8, 200);
@@ -173,8 +175,8 @@ mod tests {
             make-received SEED COUNT | make-views SEED COUNT | make-lessons SEED COUNT | \
             make-stream SEED BLOCKS | make-lend SEED COUNT | make-help SEED COUNT | \
             make-totals SEED COUNT | make-ties SEED COUNT | make-missing SEED COUNT | \
-            make-efr SEED COUNT | make-windows SEED COUNT | make-full SEED | \
-            make-sheet SEED COUNT";
+            make-efr SEED COUNT | make-whose SEED COUNT | make-windows SEED COUNT | \
+            make-full SEED | make-sheet SEED COUNT";
         assert_eq!(usage(), words);
     }
 
@@ -209,6 +211,10 @@ mod tests {
             "make-efr 7",
             "make-efr? 7 1",
             "efr",
+            "make-whose",
+            "make-whose 7",
+            "make-who 7 1",
+            "whose",
             "make-windows 7 x",
             "make-window 7 1",
             "help",

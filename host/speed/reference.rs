@@ -10,9 +10,10 @@
 mod model;
 
 use model::burst::Interleaving;
-use model::channel::{self, Channel};
+use model::channel::{self, Channel, ACCESS};
 use model::receiving_stream::{Receiver, Taken};
 use model::sending_stream::{sent_and_ended, Sender};
+use model::whose::whose;
 use std::process::ExitCode;
 use std::slice::from_ref;
 
@@ -45,6 +46,12 @@ fn decode(channel: &Channel, calls: usize) -> bool {
     let d = bits(channel.reads);
     let sent = channel.encode(IDENTITY, &d, channel.writes).unwrap();
     repeat(calls, || channel.decode(IDENTITY, &sent, channel.reads)) == Ok((0, d))
+}
+
+/// Whether the identity that an access burst was sent to is named, so many times.
+fn name_sender(calls: usize) -> bool {
+    let sent = ACCESS.encode(IDENTITY, &bits(8), 36).unwrap();
+    repeat(calls, || whose(&sent)) == Ok((IDENTITY, 0))
 }
 
 /// Whether a stream sends so many blocks.
@@ -101,6 +108,7 @@ fn run(name: &str, calls: usize) -> bool {
     match (kind, call, channel::named(kind.as_bytes())) {
         (_, "encode", Some(channel)) => encode(channel, calls),
         (_, "decode", Some(channel)) => decode(channel, calls),
+        ("access", "whose", _) => name_sender(calls),
         ("send", "speech", _) => send(calls, 260),
         ("send", "facch", _) => send(calls, 184),
         ("take", "speech", _) => take(calls, 260, as_sent, false),

@@ -3,5 +3,6 @@ pub mod Entries
 pub mod Received
 pub mod Says
 pub mod Promises
+pub mod Whose
 pub mod Examples
 pub mod laws

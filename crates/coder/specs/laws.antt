@@ -15,3 +15,4 @@ pub mod Hearings
 pub mod Promises
 pub mod Says
 pub mod Counts
+pub mod Whose

@@ -1,4 +1,5 @@
 // The blocks whose parity bits stand after d and are worked out by division: access and SCH (000, 4.6, 4.7).
+use crate::Whose;
 use answers::Heard;
 use trellis::LONGEST;
 ghost use mathlib.Core.List.{_++_};
@@ -8,6 +9,7 @@ ghost use lib.Bits.{bitXor};
 ghost use lib.Dec.{eqb};
 ghost use lib.ListN.{length, drop};
 ghost use Rattle.answers.specs.Answers.{Meets};
+ghost use Rattle.answers.specs.declared.Told.the-variants.{Done};
 ghost use Rattle.bits.specs.Bits.{Bits, Symbols, digits, value, ones, zeros};
 ghost use Rattle.parity.specs.Asked.{Generates};
 ghost use Rattle.parity.specs.Division.{remainder};
@@ -15,6 +17,7 @@ ghost use Rattle.trellis.specs.Nearest.{nearest, nearestCount, longest};
 ghost use Rattle.convolution.specs.Pairs.{coded};
 ghost use Rattle.coder.specs.Entries.{Given};
 ghost use Rattle.coder.specs.Received.{blockHeard, hands};
+ghost use Rattle.coder.specs.Whose.{blockNamed, naming};
 ghost use Rattle.coder.specs.laws.Format.{Fits, size, generatorOf, laidOut};
 
 // What such a block is: its generator, D^degree + generator, its bits, and its coded bits.
@@ -112,4 +115,24 @@ pub(crate) fn receive(f: Format, colour: u64, c: &[u8], d: &mut [u8]) -> Heard
         return Heard::Good(count);
     }
     Heard::Bad(count)
+}
+
+// The colour that is added to the parity bits at the end of w: each of its bits turns over one of the ones that division would leave without it.
+fn colour_of(generator: u64, degree: u32, w: &[u8]) -> u64
+    requires { ⌜ (Generates generator degree) × (degree ≤ length (now w)) × Bits (now w) ⌝ }
+    ensures { λ r. ⌜ r ≡ bitXor (value (remainder (digits degree generator) (now (w .entry)))) (2 ^ degree - 1) ⌝ }
+{
+    parity::remainder(generator, degree, w) ^ all_ones(degree)
+}
+
+// The identity that the nearest block to c names, and its count.
+pub(crate) fn name(f: Format, c: &[u8]) -> Whose
+    requires { ⌜ (Fits f) × (f .degree ≤ 8) × (Symbols (now c)) × (length (now c) ≡ f .coded) ⌝ }
+    ensures { λ r. ⌜ r ≡ naming Done (blockNamed (generatorOf f) (f .bits) (now (c .entry))) ⌝ }
+{
+    let m = f.bits + f.degree as usize;
+    let mut u = [0u8; LONGEST];
+    let count = decode(f, c, &mut u);
+    let identity = colour_of(f.generator, f.degree, &u[0..m]);
+    Whose::Named(identity as u8, count)
 }

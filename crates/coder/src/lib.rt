@@ -16,12 +16,20 @@ ghost use Rattle.answers.specs.declared.Told.the-variants.{Refused};
 ghost use Rattle.bits.specs.Bits.{noneOver, both};
 ghost use Rattle.coder.specs.Entries.{judged, speechSent, controlSent, sacchSent, accessSent, schSent, unreached, trellisViewed};
 ghost use Rattle.coder.specs.Received.{blockHeard, reception, speechReceived, controlReceived, sacchReceived, accessReceived, schReceived};
+ghost use Rattle.coder.specs.Whose.{accessWhose};
 ghost use Rattle.coder.specs.laws.Format.{Fits, generatorOf};
 
 // The trellis view: the sixteen numbers by state; all are 65,535 where the call is refused.
 pub struct View {
     pub told: Told,
     pub row: [u16; 16],
+}
+
+// Whose request an access burst is.
+pub enum Whose {
+    // the identity that the nearest burst names, and in how many places that burst disagrees with what was received
+    Named(u8, u16),
+    Refused(Refusal),
 }
 
 // The view reads at most 228 pairs, however long a block may be.
@@ -151,6 +159,17 @@ pub fn receive_access(identity: u64, e: &[u8], d: &mut [u8]) -> Heard
     ensures { λ r. ⌜ Meets (accessReceived identity (now (e .entry)) (now (d .entry))) r (now (d .exit)) ⌝ }
 {
     receive_block(block::ACCESS, identity, e, d)
+}
+
+// Whose access burst it is: of 36 received bits, the one identity under which they are accepted.
+pub fn whose_access(e: &[u8]) -> Whose
+    ensures { λ r. ⌜ r ≡ accessWhose (now (e .entry)) ⌝ }
+{
+    let told = judge(e, bits::RECEIVED, 36, 0, 0, 0);
+    match told {
+        Told::Done => block::name(block::ACCESS, e),
+        Told::Refused(why) => Whose::Refused(why),
+    }
 }
 
 // SCH received: 78 bits to 25.

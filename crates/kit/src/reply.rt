@@ -138,6 +138,10 @@ fn answer(streams: Streams, asks: Asks, number: u16, read: &[u8], written: &mut 
                 streams,
             }
         }
+        Asks::Whose => Said {
+            answer: Answer::of_whose(coder::whose_access(read)),
+            streams,
+        },
         Asks::View => Said {
             answer: Answer::of_view(coder::view_trellis(read)),
             streams,

@@ -2,6 +2,7 @@
 // that the last call told is written; what an entry must tell is tested elsewhere.
 mod blocks;
 mod enhanced;
+mod named;
 mod streams;
 
 use text::Span;
@@ -80,6 +81,9 @@ fn call_block(name: &[u8], calls: u8) -> u32 {
     }
     if same(name, b"access-decode") {
         return blocks::access(false, calls);
+    }
+    if same(name, b"access-whose") {
+        return named::access(calls);
     }
     if same(name, b"sch-encode") {
         return blocks::sch(true, calls);

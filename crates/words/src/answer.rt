@@ -5,6 +5,7 @@ use chart::Kind;
 use chart::Totals;
 use chart::Values;
 use coder::View;
+use coder::Whose;
 
 // The word is filled up with spaces. The first `count` of the numbers are said, and the first `bits` of the bytes that were written; where the
 // line lent the buffer itself, all of it is said, and that there is none.
@@ -67,6 +68,16 @@ impl Answer {
         match number {
             Maybe::None => Self::new(NO_WORD).with(count).with_bits(bits),
             Maybe::Some(number) => Self::refused(number).with(count),
+        }
+    }
+
+    // The identity and the count, or the refusal.
+    pub fn of_whose(whose: Whose) -> Self {
+        match whose {
+            Whose::Named(identity, count) => Self::new(NO_WORD)
+                .with_number(identity as u32)
+                .with_number(count as u32),
+            Whose::Refused(why) => Self::refused(answers::number(why) as u16),
         }
     }
 

@@ -30,6 +30,7 @@ pub enum Call {
 pub enum Asks {
     Send(Channel),
     Receive(Channel),
+    Whose,
     View,
     Stream(Call),
     Nothing,
@@ -38,7 +39,7 @@ pub enum Asks {
 // A row of the table, filled up with spaces.
 pub type Verb = [u8; 20];
 
-const ROWS: usize = 19;
+const ROWS: usize = 20;
 
 // Every verb: its word, how many bytes are written for it, and its arguments in order, n for a number and b for bits.
 // One that may have more arguments or fewer has a row for each: `trellis` alone views nothing.
@@ -55,6 +56,7 @@ const VERBS: [Verb; ROWS] = [
     *b"access? 8 nb        ",
     *b"sch? 25 b           ",
     *b"efr? 244 b          ",
+    *b"whose 0 b           ",
     *b"trellis 0 b         ",
     *b"trellis 0           ",
     *b"send 464 b          ",
@@ -78,6 +80,7 @@ const ASKED: [Asks; ROWS] = [
     Asks::Receive(Channel::Access),
     Asks::Receive(Channel::Sch),
     Asks::Receive(Channel::Efr),
+    Asks::Whose,
     Asks::View,
     Asks::View,
     Asks::Stream(Call::Send),

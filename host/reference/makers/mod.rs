@@ -20,6 +20,7 @@ mod taken_blocks;
 mod ties_lines;
 mod totals_lines;
 mod view_lines;
+mod whose_lines;
 mod windows_lines;
 
 use crate::chance::random::Random;
@@ -37,7 +38,7 @@ pub struct Maker {
 }
 
 /// All makers.
-pub static MAKERS: [Maker; 14] = [
+pub static MAKERS: [Maker; 15] = [
     Maker {
         mode: "make-lines",
         numbers: "SEED COUNT",
@@ -103,6 +104,12 @@ pub static MAKERS: [Maker; 14] = [
         numbers: "SEED COUNT",
         with_returns: false,
         lines: |random, count| each(random, count, efr_lines::line),
+    },
+    Maker {
+        mode: "make-whose",
+        numbers: "SEED COUNT",
+        with_returns: false,
+        lines: whose_lines::lines,
     },
     Maker {
         mode: "make-windows",

@@ -110,7 +110,7 @@ fn coded_list(random: &mut Random, channel: &Channel, sender: usize) -> Vec<u8> 
 }
 
 /// The coded bits c of a random block.
-fn coded(random: &mut Random, channel: &Channel, sender: usize) -> Vec<u8> {
+pub fn coded(random: &mut Random, channel: &Channel, sender: usize) -> Vec<u8> {
     let d = text::bits(&fields::good_bits(random, channel.reads));
     channel.coded(sender as u64, &d)
 }

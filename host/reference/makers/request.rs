@@ -123,6 +123,16 @@ impl Request {
         self.line()
     }
 
+    /// One of these words in the place of its own, or its own changed.
+    pub fn wrong_word(self, random: &mut Random, unknown: &[&[u8]]) -> Vec<u8> {
+        let word = if random.one_in(2) {
+            random.pick(unknown).to_vec()
+        } else {
+            fields::changed_word(random, &self.word)
+        };
+        self.line_with(&word)
+    }
+
     /// Too few or too many arguments, or spaces where none belong; `access` begins a line that
     /// wants an identity.
     pub fn wrong_fields(self, random: &mut Random, access: &[u8]) -> Vec<u8> {

@@ -130,12 +130,7 @@ fn wrong_fields(random: &mut Random) -> Vec<u8> {
 /// An unknown word before good bits.
 fn wrong_word(random: &mut Random) -> Vec<u8> {
     const UNKNOWN: [&[u8]; 6] = [b"trellis?", b"view", b"viterbi", b"", b"?trellis", b"t"];
-    let word = if random.one_in(2) {
-        random.pick(&UNKNOWN).to_vec()
-    } else {
-        fields::changed_word(random, b"trellis")
-    };
-    valid(random).line_with(&word)
+    valid(random).wrong_word(random, &UNKNOWN)
 }
 
 #[cfg(test)]

@@ -4,7 +4,7 @@
 use crate::chance::random::Random;
 use crate::makers::{
     each, efr_lines, fields, help_lines, lend_lines, lesson_lines, missing_lines, received_lines,
-    sent_lines, ties_lines, totals_lines, view_lines,
+    sent_lines, ties_lines, totals_lines, view_lines, whose_lines,
 };
 use crate::page::MARK;
 
@@ -38,7 +38,7 @@ fn of_other_makers(random: &mut Random, count: usize) -> Vec<Vec<u8>> {
 
 /// So many lines of one of the other makers.
 fn of_another_maker(random: &mut Random, number: usize) -> Vec<Vec<u8>> {
-    match random.below(12) {
+    match random.below(13) {
         0..=2 => lesson_lines::lessons(random, number),
         3 => lend_lines::lines(random, number),
         4 => help_lines::lines(random, number),
@@ -48,6 +48,7 @@ fn of_another_maker(random: &mut Random, number: usize) -> Vec<Vec<u8>> {
         8 => each(random, number, sent_lines::line),
         9 => each(random, number, received_lines::line),
         10 => each(random, number, efr_lines::line),
+        11 => whose_lines::lines(random, number),
         _ => each(random, number, view_lines::line),
     }
 }

@@ -18,3 +18,4 @@ pub mod refusal;
 pub mod sending_stream;
 pub mod survivors;
 pub mod trellis;
+pub mod whose;

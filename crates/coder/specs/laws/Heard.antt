@@ -72,7 +72,28 @@ module _ (h : Hearing) (d : List ℕ) (t : Bool) (e : t ≡ h .good) (k : ℕ) (
   unfolding hands hears heardOr
   handed-bad f = record { result = said false f; left = ap (λ (x : Heard). heardOr x (h .bits) d) (said false f) }
 
--- ---- the nearest block, which stands at the front of v: what is divided, the bits, the count and the verdict
+-- ---- the nearest block u, which stands at the front of v, and what of it is divided
+module _ (f : Format) (c rest v : List ℕ) (fits : Fits f) (ev : v ≡ nearest c (size f) ++ rest) where
+  pub found : Candidate (size f) (nearest c (size f))
+  found = nearest-is c (size f) (omega arith) (fits .short) .candidate
+
+  front : (k : ℕ) → k ≤ size f → take k v ≡ take k (nearest c (size f))
+  front k h = ap (take k) ev ∙ take-append-le k (nearest c (size f)) rest (omega (arith, found .long, h))
+
+  module _ (k : ℕ) (ek : k ≡ f .bits + f .degree) where
+    pub divided : take k v ≡ take (f .bits + f .degree) (nearest c (size f))
+    divided = ap (λ (j : ℕ). take j v) ek ∙ front (f .bits + f .degree) (omega arith)
+
+    pub divisible : Generates (f .generator) (f .degree) × (f .degree ≤ length (take k v)) × Bits (take k v)
+    divisible =
+        let u : List ℕ = nearest c (size f) in
+        let l : length (take (f .bits + f .degree) u) ≡ f .bits + f .degree = length-take-le (f .bits + f .degree) u (omega (arith, found .long)) in
+        (fits .generates, rw divided (omega (arith, l)), rw divided (bits-take (f .bits + f .degree) u (found .bits)))
+
+pub same-size : (f : Format) → f .bits + length (generatorOf f) + 4 ≡ size f
+same-size f = omega (arith, length-digits (f .degree) (f .generator))
+
+-- ---- the bits, the count and the verdict
 module _ (f : Format) (colour : ℕ) (c d rest v : List ℕ) (fits : Fits f) (given : Given 2 (f .coded) (f .bits) c d) (ev : v ≡ nearest c (size f) ++ rest) where
   abbrev u : List ℕ
   u = nearest c (size f)
@@ -86,34 +107,24 @@ module _ (f : Format) (colour : ℕ) (c d rest v : List ℕ) (fits : Fits f) (gi
   long-g : length g ≡ f .degree
   long-g = length-digits (f .degree) (f .generator)
 
-  same-size : f .bits + length g + 4 ≡ size f
-  same-size = omega (arith, long-g)
-
   candidate : Candidate (size f) u
-  candidate = nearest-is c (size f) (omega arith) (fits .short) .candidate
+  candidate = found f c rest v fits ev
 
-  front : (k : ℕ) → k ≤ size f → take k v ≡ take k u
-  front k h = ap (take k) ev ∙ take-append-le k u rest (omega (arith, candidate .long, h))
-
-  divided : take (n + f .degree - 0) v ≡ take (f .bits + f .degree) u
-  divided =
-      let k : n + f .degree - 0 ≡ f .bits + f .degree = omega (arith, given .lends) in
-      ap (λ (j : ℕ). take j v) k ∙ front (f .bits + f .degree) (omega arith)
+  m-is : n + f .degree - 0 ≡ f .bits + f .degree
+  m-is = omega (arith, given .lends)
 
   pub heard-divisible : Generates (f .generator) (f .degree) × (f .degree ≤ length (take (n + f .degree - 0) v)) × Bits (take (n + f .degree - 0) v)
-  heard-divisible =
-      let l : length (take (f .bits + f .degree) u) ≡ f .bits + f .degree = length-take-le (f .bits + f .degree) u (omega (arith, candidate .long)) in
-      (fits .generates, rw divided (omega (arith, l)), rw divided (bits-take (f .bits + f .degree) u (candidate .bits)))
+  heard-divisible = divisible f c rest v fits ev (n + f .degree - 0) m-is
 
   pub heard-bits : take (n - 0) v ≡ blockHeard g colour (f .bits) c .bits
   unfolding blockHeard
   heard-bits =
       let k : n - 0 ≡ f .bits = omega (arith, given .lends) in
-      ap (λ (j : ℕ). take j v) k ∙ front (f .bits) (omega arith) ∙ ap (λ (j : ℕ). take (f .bits) (nearest c j)) (sym same-size)
+      ap (λ (j : ℕ). take j v) k ∙ front f c rest v fits ev (f .bits) (omega arith) ∙ ap (λ (j : ℕ). take (f .bits) (nearest c j)) (sym (same-size f))
 
   pub heard-count : (k : ℕ) → k ≡ nearestCount c (size f) → k ≡ blockHeard g colour (f .bits) c .count
   unfolding blockHeard
-  heard-count k e = e ∙ ap (nearestCount c) (sym same-size)
+  heard-count k e = e ∙ ap (nearestCount c) (sym (same-size f))
 
   pub heard-good : colour < 2 ^ f .degree → (t : Bool) → t ≡ eqb (bitXor (value (remainder g (take (n + f .degree - 0) v))) colour) (2 ^ f .degree - 1) → t ≡ blockHeard g colour (f .bits) c .good
   unfolding blockHeard allOnes
@@ -123,10 +134,10 @@ module _ (f : Format) (colour : ℕ) (c d rest v : List ℕ) (fits : Fits f) (gi
       let b : List ℕ = digits (length g) colour in
       let lp : length p ≡ length g = length-lent u m (length g) (omega (arith, candidate .long, long-g)) in
       let h : colour < 2 ^ length g = subst (λ (k : ℕ). colour < 2 ^ k) (sym long-g) within in
-      let whole : take m u ++ p ≡ take (n + f .degree - 0) v = sym (take-add m (length g) u) ∙ ap (λ (k : ℕ). take (m + k) u) long-g ∙ sym divided in
+      let whole : take m u ++ p ≡ take (n + f .degree - 0) v = sym (take-add m (length g) u) ∙ ap (λ (k : ℕ). take (m + k) u) long-g ∙ sym (divided f c rest v fits ev (n + f .degree - 0) m-is) in
       let turned = value-coloured g (take m u) p b lp (length-digits (length g) colour) (bits-take m u (candidate .bits)) (bits-take (length g) (drop m u) (bits-drop m u (candidate .bits))) (bits-digits (length g) colour) in
       e ∙ sym (ap₂ eqb
-      (ap (λ (k : ℕ). value (remainder g (take m (nearest c k) ++ add (take (length g) (drop m (nearest c k))) b))) same-size
+      (ap (λ (k : ℕ). value (remainder g (take m (nearest c k) ++ add (take (length g) (drop m (nearest c k))) b))) (same-size f)
       ∙ turned ∙ ap₂ bitXor (ap (λ (w : List ℕ). value (remainder g w)) whole) (value-digits (length g) colour h))
       (value-ones (length g) ∙ ap (λ (k : ℕ). 2 ^ k - 1) long-g))
 

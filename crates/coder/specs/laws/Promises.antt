@@ -39,10 +39,10 @@ accepted count bits = record { result = Good count; left = bits }
 abbrev found-bad : ℕ → List ℕ → Answer Heard
 found-bad count before = record { result = Bad count; left = before }
 
-accepts : (a : Answer Heard) (count : ℕ) (bits : List ℕ) → a ≡ accepted count bits → Accepts a count bits
+pub accepts : (a : Answer Heard) (count : ℕ) (bits : List ℕ) → a ≡ accepted count bits → Accepts a count bits
 accepts a count bits e = (ap (λ (x : Answer Heard). ofHeard (x .result)) e, ap (λ (x : Answer Heard). x .left) e)
 
-finds-bad : (a : Answer Heard) (count : ℕ) (before : List ℕ) → a ≡ found-bad count before → FindsBad a count before
+pub finds-bad : (a : Answer Heard) (count : ℕ) (before : List ℕ) → a ≡ found-bad count before → FindsBad a count before
 finds-bad a count before e = (ap (λ (x : Answer Heard). ofHeard (x .result)) e, ap (λ (x : Answer Heard). x .left) e)
 
 -- ---- a block that is heard near enough to what was coded: once over the generator, the identity and the length

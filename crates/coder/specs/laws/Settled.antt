@@ -1,8 +1,11 @@
 -- Each entry's contract settles its result and every byte of the lent buffer: two that it allows are equal.
 use mathlib.Core.List.{List}
+use mathlib.Core.Path.{_≡_, sym, _∙_}
 use Prim.Native.Nat.{ℕ}
 use Rattle.answers.specs.laws.Answers.{Settled, meets-once}
 use Rattle.coder.specs.Entries.{speechSent, controlSent, sacchSent, accessSent, schSent, trellisViewed}
+use Rattle.coder.specs.Whose.{accessWhose}
+use Rattle.coder.specs.declared.Whose.{Whose}
 use Rattle.coder.specs.Received.{speechReceived, controlReceived, sacchReceived, accessReceived, schReceived}
 
 module _ (identity : ℕ) (d c : List ℕ) where
@@ -38,3 +41,7 @@ module _ (identity : ℕ) (d c : List ℕ) where
 
   pub access-heard-settled : Settled (accessReceived identity c d)
   access-heard-settled = meets-once (accessReceived identity c d)
+
+-- where nothing is written the result is all
+pub whose-settled : (e : List ℕ) (r s : Whose) → r ≡ accessWhose e → s ≡ accessWhose e → r ≡ s
+whose-settled e r s f g = f ∙ sym g
