@@ -5,14 +5,11 @@ use trellis::LONGEST;
 ghost use mathlib.Core.List.{_++_};
 ghost use mathlib.Core.Path.{_≡_};
 ghost use Prim.Native.Nat.{_+_, _-_, _*_, _≤_, _<_, _^_};
-ghost use lib.Bits.{bitXor};
-ghost use lib.Dec.{eqb};
 ghost use lib.ListN.{length, drop};
 ghost use Rattle.answers.specs.Answers.{Meets};
 ghost use Rattle.answers.specs.declared.Told.the-variants.{Done};
-ghost use Rattle.bits.specs.Bits.{Bits, Symbols, digits, value, ones, zeros};
+ghost use Rattle.bits.specs.Bits.{Bits, Symbols, ones, zeros};
 ghost use Rattle.parity.specs.Asked.{Generates};
-ghost use Rattle.parity.specs.Division.{remainder};
 ghost use Rattle.trellis.specs.Nearest.{nearest, nearestCount, longest};
 ghost use Rattle.convolution.specs.Pairs.{coded};
 ghost use Rattle.coder.specs.Entries.{Given};
@@ -85,22 +82,6 @@ pub(crate) fn decode(f: Format, c: &[u8], u: &mut [u8; LONGEST]) -> u16
     trellis::nearest(c, f.bits + f.degree as usize + 4, u)
 }
 
-// What all ones are as a number of `degree` bits.
-fn all_ones(degree: u32) -> u64
-    requires { ⌜ degree ≤ 62 ⌝ }
-    ensures { λ r. ⌜ r ≡ 2 ^ degree - 1 ⌝ }
-{
-    (1 << degree) - 1
-}
-
-// Does division leave all ones of w, the parity bits at its end having the colour added?
-pub(crate) fn leaves_ones(generator: u64, degree: u32, colour: u64, w: &[u8]) -> bool
-    requires { ⌜ (Generates generator degree) × (degree ≤ length (now w)) × Bits (now w) ⌝ }
-    ensures { λ r. ⌜ r ≡ eqb (bitXor (value (remainder (digits degree generator) (now (w .entry)))) colour) (2 ^ degree - 1) ⌝ }
-{
-    parity::remainder(generator, degree, w) ^ colour == all_ones(degree)
-}
-
 // The nearest block to c: its first bits are handed over where the parity bits within it, the colour added once more, are good.
 pub(crate) fn receive(f: Format, colour: u64, c: &[u8], d: &mut [u8]) -> Heard
     requires { ⌜ (Fits f) × (Given 2 (f .coded) (f .bits) (now c) (now d)) × (colour < 2 ^ f .degree) ⌝ }
@@ -110,19 +91,11 @@ pub(crate) fn receive(f: Format, colour: u64, c: &[u8], d: &mut [u8]) -> Heard
     let m = n + f.degree as usize;
     let mut u = [0u8; LONGEST];
     let count = decode(f, c, &mut u);
-    if leaves_ones(f.generator, f.degree, colour, &u[0..m]) {
+    if parity::leaves_ones(f.generator, f.degree, colour, &u[0..m]) {
         bits::copy(&u[0..n], d);
         return Heard::Good(count);
     }
     Heard::Bad(count)
-}
-
-// The colour that is added to the parity bits at the end of w: each of its bits turns over one of the ones that division would leave without it.
-fn colour_of(generator: u64, degree: u32, w: &[u8]) -> u64
-    requires { ⌜ (Generates generator degree) × (degree ≤ length (now w)) × Bits (now w) ⌝ }
-    ensures { λ r. ⌜ r ≡ bitXor (value (remainder (digits degree generator) (now (w .entry)))) (2 ^ degree - 1) ⌝ }
-{
-    parity::remainder(generator, degree, w) ^ all_ones(degree)
 }
 
 // The identity that the nearest block to c names, and its count.
@@ -133,6 +106,6 @@ pub(crate) fn name(f: Format, c: &[u8]) -> Whose
     let m = f.bits + f.degree as usize;
     let mut u = [0u8; LONGEST];
     let count = decode(f, c, &mut u);
-    let identity = colour_of(f.generator, f.degree, &u[0..m]);
+    let identity = parity::colour_of(f.generator, f.degree, &u[0..m]);
     Whose::Named(identity as u8, count)
 }

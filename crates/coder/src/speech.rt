@@ -87,7 +87,7 @@ fn is_good(d: &[u8], u: &[u8]) -> bool
 {
     let mut w = [0u8; 53];
     fill_w(d, u, &mut w);
-    crate::block::leaves_ones(parity::SPEECH, 3, 0, &w)
+    parity::leaves_ones(parity::SPEECH, 3, 0, &w)
 }
 
 // The protected bits, and the other 78 as they were received, missing ones as 0.

@@ -1,6 +1,8 @@
 // Division of bits by a generator polynomial, on which all parity bits stand (01, Coding rules).
 ghost use mathlib.Core.Path.{_≡_};
-ghost use Prim.Native.Nat.{_≤_, _<_, _^_};
+ghost use Prim.Native.Nat.{_-_, _≤_, _<_, _^_};
+ghost use lib.Bits.{bitXor};
+ghost use lib.Dec.{eqb};
 ghost use lib.ListN.{length};
 ghost use Rattle.bits.specs.Bits.{Bits, value, digits};
 ghost use Rattle.parity.specs.Asked.{Generates};
@@ -46,4 +48,28 @@ pub fn remainder(generator: u64, degree: u32, w: &[u8]) -> u64
         i += 1;
     }
     held
+}
+
+// What all ones are as a number of `degree` bits.
+fn all_ones(degree: u32) -> u64
+    requires { ⌜ degree ≤ 62 ⌝ }
+    ensures { λ r. ⌜ r ≡ 2 ^ degree - 1 ⌝ }
+{
+    power(degree) - 1
+}
+
+// Does division leave all ones of w, the parity bits at its end having the colour added?
+pub fn leaves_ones(generator: u64, degree: u32, colour: u64, w: &[u8]) -> bool
+    requires { ⌜ (Generates generator degree) × (degree ≤ length (now w)) × Bits (now w) ⌝ }
+    ensures { λ r. ⌜ r ≡ eqb (bitXor (value (remainder (digits degree generator) (now (w .entry)))) colour) (2 ^ degree - 1) ⌝ }
+{
+    remainder(generator, degree, w) ^ colour == all_ones(degree)
+}
+
+// The colour that is added to the parity bits at the end of w: each of its bits turns over one of the ones that division would leave without it.
+pub fn colour_of(generator: u64, degree: u32, w: &[u8]) -> u64
+    requires { ⌜ (Generates generator degree) × (degree ≤ length (now w)) × Bits (now w) ⌝ }
+    ensures { λ r. ⌜ r ≡ bitXor (value (remainder (digits degree generator) (now (w .entry)))) (2 ^ degree - 1) ⌝ }
+{
+    remainder(generator, degree, w) ^ all_ones(degree)
 }

@@ -3,15 +3,15 @@
 use mathlib.Core.Bool.{Bool, true, false}
 use mathlib.Core.List.{List, _++_}
 use mathlib.Core.Path.{_≡_, refl, sym, ap, ap₂, _∙_, subst}
-use Prim.Native.Nat.{ℕ, _+_, _-_, _*_, _≤_, _<_, _^_}
+use Prim.Native.Nat.{ℕ, _+_, _-_, _≤_, _<_, _^_}
 use native.Mathlib.Omega.{arith}
 use lib.Bits.{bitXor}
-use lib.Dec.{eqb, leb, lit≤}
+use lib.Dec.{eqb}
 use lib.ListN.{length, take, drop}
 use lib.Pow.{pow-mono}
 use lib.Seq.{take-add}
-use borrow.Author.Tests.{eqb-true, eq-eqb, ne-eqb}
-use Rattle.bits.specs.Bits.{Bits, Symbols, noneOver, both, missing, add, digits, value, ones, zeros}
+use borrow.Author.Tests.{eqb-true, eq-eqb}
+use Rattle.bits.specs.Bits.{Bits, Symbols, noneOver, both, add, digits, value, ones, zeros}
 use Rattle.bits.specs.laws.Cases.{not-true, false-true}
 use Rattle.bits.specs.laws.Check.{none-over, over-none}
 use Rattle.bits.specs.laws.Parts.{length-lent}
@@ -23,8 +23,6 @@ use Rattle.parity.specs.laws.Generators.{access-number}
 use Rattle.trellis.specs.Nearest.{Candidate, Nearest, nearest, nearestCount, longest}
 use Rattle.trellis.specs.laws.Nearest.{nearest-is}
 use Rattle.answers.specs.Answers.{numberOf, orNone, ofHeard}
-use Rattle.answers.specs.declared.Heard.{Heard}
-use Rattle.answers.specs.declared.Maybe.{Maybe}
 use Rattle.answers.specs.declared.Maybe.the-variants.{None, Some}
 use Rattle.answers.specs.declared.Refusal.{Refusal}
 use Rattle.answers.specs.declared.Refusal.the-variants.{Length, NotBits}
@@ -33,9 +31,9 @@ use Rattle.answers.specs.declared.Told.{Told}
 use Rattle.answers.specs.declared.Told.the-variants as told
 use Rattle.coder.specs.Entries.{judged, Given, accessSent}
 use Rattle.coder.specs.Received.{allOnes, blockHeard, reception, accessReceived}
-use Rattle.coder.specs.Says.{Accepts, FindsBad}
+use Rattle.coder.specs.Says.{Accepts}
 use Rattle.coder.specs.Promises.{altered, whole}
-use Rattle.coder.specs.Whose.{Naming, blockNamed, naming, accessWhose, ofWhose, identityOf, Tells, Names, NearestNames, WhoseSays, TheOne, ReasonIsTrue, WhoAcceptsIsNamed, SenderIsNamed, SenderPromise, SenderBears}
+use Rattle.coder.specs.Whose.{Naming, blockNamed, naming, accessWhose, ofWhose, identityOf, Tells, Names, NearestNames, WhoseSays, TheOne, ReasonIsTrue, WhoAcceptsIsNamed, SenderPromise, SenderBears}
 use Rattle.coder.specs.declared.Whose.{Whose}
 use Rattle.coder.specs.declared.Whose.the-variants.{Named, Refused}
 use Rattle.coder.specs.declared.block.Format.{Format}

@@ -1,11 +1,11 @@
--- `coder::block::leaves_ones` is right: it compares the number that division leaves, the colour taken off.
+-- `parity::leaves_ones` is right: it compares the number that division leaves, the colour taken off.
 use mathlib.Core.Path.{ap₂}
 use Prim.Native.Nat.{ℕ}
 use lib.Bits.{bitXor}
 use lib.Dec.{eqb}
 use borrow.Author.Needs.{needs}
-use Rattle.coder.proofs.block.leaves_ones.Statement.{statement}
-use Rattle.coder.proofs.block.leaves_ones.Tie as tie
+use Rattle.parity.proofs.leaves_ones.Statement.{statement}
+use Rattle.parity.proofs.leaves_ones.Tie as tie
 
 returns : tie.Need-returns
 returns c =

@@ -1,9 +1,9 @@
--- `coder::block::colour_of` is right: what division leaves, turned over.
+-- `parity::colour_of` is right: what division leaves, turned over.
 use mathlib.Core.Path.{ap₂}
 use lib.Bits.{bitXor}
 use borrow.Author.Needs.{needs}
-use Rattle.coder.proofs.block.colour_of.Statement.{statement}
-use Rattle.coder.proofs.block.colour_of.Tie as tie
+use Rattle.parity.proofs.colour_of.Statement.{statement}
+use Rattle.parity.proofs.colour_of.Tie as tie
 
 returns : tie.Need-returns
 returns c = ap₂ bitXor (c .before .remainder .ensures) (c .all-ones .ensures)
