@@ -1,10 +1,10 @@
 -- 02, M-105: for which identity an access burst was, its whole answer, what it says in 01's numbers, and why the reason is true. Proved in laws/Whose.
+use mathlib.Core.Bool.{true}
 use mathlib.Core.List.{List}
 use mathlib.Core.Path.{_≡_}
 use Prim.Native.Nat.{ℕ, _+_, _*_, _≤_}
 use lib.Dec.{eqb}
 use lib.ListN.{length, take, drop}
-use mathlib.Core.Bool.{true}
 use Rattle.bits.specs.Bits.{Symbols, noneOver, missing, add, digits, value}
 use Rattle.parity.specs.Division.{parity, accessG}
 use Rattle.trellis.specs.Nearest.{Nearest, nearest, nearestCount}
