@@ -62,8 +62,9 @@ enum {
 /*
  * Bytes of stack that are enough for any of the calls. It is measured and not proved: host/desk/stack.c saw at most 1,208 in a call, with the
  * library as the toolchain in toolchain.txt builds it, and 4,680 in the first call of a program on shared libraries, where memcpy and
- * memset are looked for and the processor's registers are kept on the stack meanwhile. That part differs with the processor and with the C
- * library, so 3,500 more are left for it; it falls away in a program that is linked with -static or with -Wl,-z,now.
+ * memset are looked for and the processor's registers are kept on the stack meanwhile; both on an emulated processor. That part differs
+ * with the processor and with the C library, so 3,500 more are left for it; it falls away in a program that is linked with -static or with
+ * -Wl,-z,now.
  */
 enum { DESK_STACK_BYTES = 8192 };
 
