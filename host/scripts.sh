@@ -182,15 +182,17 @@ rt: one NOT PROVED (exit 1, 2 s)
 rt ended with status 1"
 }
 
-# Another toolchain is said, and everything is proved again with it.
+# Another toolchain is said, and everything is proved again with it; what a run starts does not say it once more.
 notes_another_toolchain() {
     say other >"$fake/version"
     run_with "$few:$fake/bin" "$copy/kit"
-    cp toolchain.txt "$fake/version"
     ended 0 '' "note: proved with the toolchain '$(cat toolchain.txt)'; the one here is 'other'
 proving and building the program kit: some minutes the first time; each crate is named when it is done
     one proved (2 s)
-    kit proved (3 s)"
+    kit proved (3 s)" && run_with "$few:$fake/bin" env DAMASQUEL_ALONE=yes "$copy/kit" && ended 0 '' ''
+    said=$?
+    cp toolchain.txt "$fake/version"
+    return "$said"
 }
 
 # A second run says that another one is running, and goes on when it is done.
