@@ -81,6 +81,8 @@ compare_handbook() {
     if flags_as_printed; then good "four altered flags are repaired, or give 9 where both parities are bad"; else bad "altered flags"; fi
     if missing_flags_as_said; then good "missing flags have no vote"; else bad "missing flags"; fi
     if lost_bursts_as_said; then good "a block is found though one of its bursts never came"; else bad "bursts that never came"; fi
+    if classes_as_proved; then good "blocks without bursts at even places or at odd come back, in each of 30 ways, and one without five bursts does not"; else bad "bursts lost by class"; fi
+    if messages_as_proved; then good "messages without bursts at even places or at odd come back, in each of 6 ways"; else bad "bursts of a message lost by class"; fi
 }
 
 compare_kit() {
@@ -95,6 +97,7 @@ compare_kit() {
         compare kit answer make-totals "$seed" 4000
         compare kit answer make-ties "$seed" 4000
         compare kit answer make-missing "$seed" 4000
+        compare kit answer make-bursts "$seed" 4000
         compare kit answer make-efr "$seed" 4000
         compare kit answer make-whose "$seed" 4000
         compare kit answer make-windows "$seed" 4000

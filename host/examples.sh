@@ -12,10 +12,11 @@ said() { sed -n 's/^ *\(∷ \)\{0,1\}is .* (\([^()]*\))$/\2/p' $tables | in_numb
 # The received bits of a row, which have a name of their own.
 received() { sed -n "s/^$1 = //p" $tables | in_numbers; } # NAME
 
-# The rows as the reference prints them: four from the tenth on begin with the received bits.
+# The rows as the reference prints them: six from the tenth on begin with the received bits.
 examples_in_table() {
     said | sed -e "10s/^/$(received tied) /" -e "11s/^/$(received fourAway) /" \
-        -e "12s/^/$(received lossyTied) /" -e "13s/^/$(received nothingCame) /"
+        -e "12s/^/$(received lossyTied) /" -e "13s/^/$(received nothingCame) /" \
+        -e "14s/^/$(received evenGone) /" -e "15s/^/$(received pairsGone) /"
 }
 
 # The tables have all that the reference works out, and nothing else.

@@ -1,5 +1,5 @@
 # 01's handbook examples that are run and not proved, that of the flags as 02 has it (M-101), what 02 says of missing bits (M-102), of enhanced
-# full rate (M-103) and of the identity that a burst names (M-105), and what the table of refusals says of a lent buffer, as kit lines:
+# full rate (M-103), of the identity that a burst names (M-105) and of bursts lost by class (M-108), and what the table of refusals says of a lent buffer, as kit lines:
 # LINE => ANSWER, the answers typed from the papers. Sourced, by POSIX sh.
 
 sevens() { zeros "$1" | tr 0 7; } # COUNT
@@ -203,4 +203,67 @@ lost_bursts_as_said() {
         # bits that are unprotected in speech are given as 0 where they are missing
         sent "${ones%??}$(zeros 78)" | without_burst $burst | ends_in "speech 0 0 ${ones%??}$(zeros 78)" || return 1
     done
+}
+
+# The 15 sets of bursts that are all at even places among a block's eight, and the 15 that are all at odd: burst b is in the set N where bit b of N is 1.
+of_one_class='1 4 5 16 17 20 21 64 65 68 69 80 81 84 85 2 8 10 32 34 40 42 128 130 136 138 160 162 168 170'
+
+# n bits that follow no simple rule.
+mixed() { awk -v n="$1" 'BEGIN { for (k = 0; k < n; k++) printf "%d", int(k * k / 3) % 2 }'; } # COUNT
+
+# The eight bursts of a block on standard input, taken by a fresh receiver once for each set, of which those in the set never came.
+without_sets() { # SET...
+    tr -d '\n' | awk -v sets="$*" -v never="$(twos 116)" '{
+        number = split(sets, set, " ")
+        for (i = 1; i <= number; i++) {
+            print "fresh"
+            for (b = 0; b < 8; b++) print "take " b " " (int(set[i] / 2 ^ b) % 2 ? never : substr($0, 116 * b + 1, 116))
+            print "totals"
+        }
+    }'
+}
+
+# What such a block is answered where nothing that is protected is lost: its unprotected bits, of which c(378+k) = d(182+k) stands in burst (378+k) mod 8, are 0
+# where that is in the set. Behind it are the totals: one good block, and no disagreement.
+bits_come_back() { # KIND BITS SET...
+    awk -v kind="$1" -v d="$2" 'BEGIN {
+        for (i = 3; i < ARGC; i++) {
+            print "fresh"
+            for (b = 0; b < 7; b++) print "waiting"
+            printf "%s 0 0 ", kind
+            for (k = 0; k < length(d); k++) printf "%s", (k > 181 && kind == "speech" && int(ARGV[i] / 2 ^ ((k + 196) % 8)) % 2 ? "0" : substr(d, k + 1, 1))
+            print ""
+            print (kind == "speech" ? "1 0 0 0" : "0 1 0 0")
+        }
+    }' "$@"
+}
+
+# Each block comes back from each set of one class. The speech with ones at u(30), u(31), u(32), u(36), u(37), u(38) has the second bits of zeros, but for pairs 30 and 42, whose
+# second bits 61 and 85 stand in burst 5. So it comes back without the bursts 0, 2, 4, 6, and not without 5 besides: both blocks then agree everywhere, and the rule takes the zeros.
+classes_as_proved() {
+    # shellcheck disable=SC2086 # several sets
+    for block in "speech $(mixed 260)" "speech $(zeros 260 | tr 0 1)" "facch $(mixed 184)" "facch $(zeros 184 | tr 0 1)"; do
+        sent "${block#* }" | without_sets $of_one_class | run_proved kit >"$room/came"
+        bits_come_back "${block% *}" "${block#* }" $of_one_class | cmp - "$room/came" || return 1
+    done
+    twin=$(ones_at 260 60 62 64 72 74 76)
+    [ "$(sent "$twin" | without_sets 85 | run_proved kit | tail -n 2)" = "speech 0 0 $twin
+1 0 0 0" ] && [ "$(sent "$twin" | without_sets 117 | run_proved kit | tail -n 2)" = "speech 0 0 $(zeros 260)
+1 0 0 0" ]
+}
+
+# A SACCH message comes back from each set of its four bursts that are all at even places or all at odd, also without its flags; from one burst alone this one does not.
+messages_as_proved() {
+    message=$(mixed 184)
+    sent=$(printf 'sacch %s\n' "$message" | run_proved kit)
+    for lost in 1 4 5 2 8 10; do
+        printf '%s\n' "$sent" | awk -v lost="$lost" -v never="$(twos 116)" '{
+            for (b = 0; b < 4; b++) {
+                e = substr($0, 116 * b + 1, 116)
+                answer = answer (int(lost / 2 ^ b) % 2 ? never : substr(e, 1, 57) "22" substr(e, 60))
+            }
+            print "sacch? " answer
+        }' | ends_in "0 $message" || return 1
+    done
+    printf 'sacch? %s%s\n' "$(twos 348)" "$(printf '%s' "$sent" | cut -c 349-)" | ends_in 'refused 8 0'
 }

@@ -2,6 +2,7 @@
 
 use crate::model::bits::{bits_of, ones, ones_at};
 use crate::model::channel::{Channel, ACCESS, CONTROL, EFR, NO_IDENTITY, SCH, SPEECH};
+use crate::model::coding::convolve;
 use crate::model::decoding::nearest;
 use crate::model::efr;
 use crate::model::exhaustive::Pairs;
@@ -33,6 +34,10 @@ fn rows() -> Vec<Vec<usize>> {
     rows.push(found(&four_away()));
     rows.push(found(&lossy_tied()));
     rows.push(found(&[MISSING; 16]));
+    rows.push(found(&even_gone()));
+    rows.push(found(&pairs_gone()));
+    rows.push(left_by_five(&twin()));
+    rows.push(left_by_five(&[0; 260]));
     rows.push(ones_on_bursts());
     rows.push(flags_of_a_stream());
     rows.extend(of_both_kinds());
@@ -145,6 +150,39 @@ fn four_away() -> Vec<u8> {
     lists_of_eight_pairs().find(is_told).expect("there is one")
 }
 
+/// The bits, of which those at some places never came.
+fn without(mut c: Vec<u8>, is_lost: fn(usize) -> bool) -> Vec<u8> {
+    for k in (0..c.len()).filter(|&k| is_lost(k)) {
+        c[k] = MISSING;
+    }
+    c
+}
+
+/// Three ones and five zeros, whose pairs disagree with those of zeros in few second bits.
+const THREE_ONES: [u8; 8] = [1, 1, 1, 0, 0, 0, 0, 0];
+
+/// The pairs of this block without their first bits.
+fn even_gone() -> Vec<u8> {
+    without(convolve(&THREE_ONES), |k| k % 2 == 0)
+}
+
+/// The same without the first pair and the seventh besides.
+fn pairs_gone() -> Vec<u8> {
+    without(convolve(&THREE_ONES), |k| k % 2 == 0 || k == 1 || k == 13)
+}
+
+/// A speech block with ones in u at 30, 31, 32 and 36, 37, 38, which are d(60), d(62) and so on:
+/// the second bits of its pairs are those of zeros but for pairs 30 and 42, in burst 5.
+fn twin() -> Vec<u8> {
+    ones_alone(260, &[60, 62, 64, 72, 74, 76])
+}
+
+/// Where the ones stand in the coded bits of a speech block, five of whose eight bursts are lost.
+fn left_by_five(d: &[u8]) -> Vec<usize> {
+    let c = sent(&SPEECH, NO_IDENTITY, d);
+    ones_at(&without(c, |k| [0, 2, 4, 5, 6].contains(&(k % 8))))
+}
+
 /// Where the ones stand in the eight bursts, one after another, of a stream that sends one speech
 /// block and ends: d(188)..d(195), which are c(384)..c(391), are 1, a bit in each of the bursts.
 fn ones_on_bursts() -> Vec<usize> {
@@ -203,23 +241,22 @@ fn crc_of_efr() -> Vec<usize> {
 #[cfg(test)]
 mod tests {
     use super::*;
-    use crate::model::coding::convolve;
     use crate::model::missing::disagrees;
     use crate::model::polynomial::from_powers;
 
     #[test]
-    fn there_are_twenty_rows() {
+    fn there_are_twenty_four_rows() {
         let lengths: Vec<usize> = rows().iter().map(|row| row.len()).collect();
         assert_eq!(lengths[..3], [40, 10, 36]);
-        assert_eq!(lengths[9..13], [25; 4]);
-        assert_eq!(lengths[14..18], [24, 48, 48, 40]);
-        assert_eq!(lengths[19..], [8]);
+        assert_eq!(lengths[9..15], [25; 6]);
+        assert_eq!(lengths[18..22], [24, 48, 48, 40]);
+        assert_eq!(lengths[23..], [8]);
     }
 
     #[test]
     fn numbers_are_parted_by_single_spaces() {
         assert_eq!(line(&[1, 0, 182]), "1 0 182");
-        assert_eq!(lines().len(), 20);
+        assert_eq!(lines().len(), 24);
     }
 
     #[test]
@@ -284,6 +321,37 @@ mod tests {
                 assert_ne!(other, taken);
             }
         }
+    }
+
+    /// The candidates of eight bits that disagree in no present place, tried one by one.
+    fn agreeing(r: &[u8]) -> Vec<Vec<u8>> {
+        let all = (0..1 << 4).map(|number| bits_of(number, 8));
+        all.filter(|u| disagreements(u, r) == 0).collect()
+    }
+
+    #[test]
+    fn one_bit_of_each_pair_leaves_one_candidate_and_two_whole_pairs_may_leave_two() {
+        assert_eq!(agreeing(&even_gone()), [THREE_ONES.to_vec()]);
+        assert_eq!(agreeing(&pairs_gone()), [vec![0; 8], THREE_ONES.to_vec()]);
+        let one_of_each: [fn(usize) -> bool; 3] =
+            [|k| k % 2 == 0, |k| k % 2 == 1, |k| k % 4 == 1 || k % 4 == 2];
+        for number in 0..1 << 4 {
+            let u = bits_of(number, 8);
+            for is_lost in one_of_each {
+                assert_eq!(agreeing(&without(convolve(&u), is_lost)), [u.clone()]);
+            }
+        }
+    }
+
+    #[test]
+    fn the_twin_of_zeros_is_told_from_them_by_four_bursts_and_not_by_three() {
+        assert_eq!(left_by_five(&twin()), left_by_five(&[0; 260]));
+        let [one, other] = [twin(), vec![0; 260]].map(|d| sent(&SPEECH, NO_IDENTITY, &d));
+        let differing: Vec<usize> = (0..456).filter(|&k| one[k] != other[k]).collect();
+        // In the bursts 1, 3 and 7, which are left, the two are the same; in burst 5 they are not.
+        assert!(differing.iter().all(|k| ![1, 3, 7].contains(&(k % 8))));
+        let of_burst_5: Vec<&usize> = differing.iter().filter(|&k| k % 8 == 5).collect();
+        assert_eq!(of_burst_5, [&61, &85]);
     }
 
     #[test]

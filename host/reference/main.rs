@@ -15,6 +15,7 @@
 //! reference make-totals SEED COUNT     prints COUNT kit lines, many of which ask for the totals
 //! reference make-ties SEED COUNT       prints COUNT kit lines of lessons in which most blocks tie
 //! reference make-missing SEED COUNT    prints COUNT kit lines of lessons in which bits are missing
+//! reference make-bursts SEED COUNT     prints COUNT kit lines of lessons in which bursts are missing
 //! reference make-efr SEED COUNT        prints COUNT kit lines of enhanced full rate
 //! reference make-whose SEED COUNT      prints COUNT kit lines, most of which ask whose a burst was
 //! reference make-windows SEED COUNT    prints COUNT kit lines as a text from Windows has them
@@ -164,6 +165,7 @@ mod tests {
         makes("make-missing 12 1200", "make-missing", 12, 1200);
         makes("make-efr 13 1300", "make-efr", 13, 1300);
         makes("make-whose 14 1400", "make-whose", 14, 1400);
+        makes("make-bursts 7 20", "make-bursts", 7, 20);
         makes("make-windows 0 900", "make-windows", 0, 900);
         makes("make-full 3", "make-full", 3, 0);
         makes("make-sheet 8 200", "make-sheet", 8, 200);
@@ -175,8 +177,8 @@ mod tests {
             make-received SEED COUNT | make-views SEED COUNT | make-lessons SEED COUNT | \
             make-stream SEED BLOCKS | make-lend SEED COUNT | make-help SEED COUNT | \
             make-totals SEED COUNT | make-ties SEED COUNT | make-missing SEED COUNT | \
-            make-efr SEED COUNT | make-whose SEED COUNT | make-windows SEED COUNT | \
-            make-full SEED | make-sheet SEED COUNT";
+            make-bursts SEED COUNT | make-efr SEED COUNT | make-whose SEED COUNT | \
+            make-windows SEED COUNT | make-full SEED | make-sheet SEED COUNT";
         assert_eq!(usage(), words);
     }
 

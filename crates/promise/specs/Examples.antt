@@ -1,7 +1,7 @@
 -- Examples of our own beside 01's (coder, Examples), as one table over the definitions, and its one proof. They see what those don't: each
 -- generator, the order of the bits, the tie rule, what stands in each burst that is sent. What is said was worked out by the independent
 -- reference, which `./test` asks again.
-use mathlib.Core.Bool.{true}
+use mathlib.Core.Bool.{Bool, true}
 use mathlib.Core.List.{List, [], _∷_, _++_}
 use mathlib.Core.Path.{_≡_, refl}
 use Prim.Native.Nat.{ℕ, _+_, _*_, _/_, _%_}
@@ -13,6 +13,7 @@ use Rattle.parity.specs.Division.{occurs, product, lower, divide, remainder, pa
 use Rattle.drawing.specs.Drawing.{controlTaps, isTap, fedBack, fromBelow, cellAt, clocked, clockedIn}
 use Rattle.convolution.specs.Pairs.{back, first, second, codedAt, coded, pairOf}
 use Rattle.register.specs.Register.{from, bit, way, best, choice, walk}
+use Rattle.trellis.specs.Lost.{among, without}
 use Rattle.trellis.specs.Nearest.{pairCost, rowAt, nearest, nearestCount}
 use Rattle.places.specs.Places.{hl, placeAt, bitAt, flagIn, cell, burst, four, flagsOf}
 use Rattle.coder.specs.Blocks.{speechP, speechUAt, speechU, speechBlock, controlU, controlBlock, colour, accessU, accessBurst, schU}
@@ -53,6 +54,21 @@ lossyTied = 2 ∷ 2 ∷ 2 ∷ 2 ∷ 2 ∷ 2 ∷ 2 ∷ 2 ∷ 1 ∷ 0 ∷ 2 ∷ 2 
 abbrev pub nothingCame : List ℕ
 nothingCame = 2 ∷ 2 ∷ 2 ∷ 2 ∷ 2 ∷ 2 ∷ 2 ∷ 2 ∷ 2 ∷ 2 ∷ 2 ∷ 2 ∷ 2 ∷ 2 ∷ 2 ∷ 2 ∷ []
 
+-- 02, M-108: the pairs of 1 1 1 0 0 0 0 0 without the even places, which leave no doubt; and without two whole pairs besides, which zeros agree with too
+abbrev pub evenGone : List ℕ
+evenGone = 2 ∷ 1 ∷ 2 ∷ 0 ∷ 2 ∷ 0 ∷ 2 ∷ 0 ∷ 2 ∷ 0 ∷ 2 ∷ 0 ∷ 2 ∷ 1 ∷ 2 ∷ 0 ∷ []
+
+abbrev pub pairsGone : List ℕ
+pairsGone = 2 ∷ 2 ∷ 2 ∷ 0 ∷ 2 ∷ 0 ∷ 2 ∷ 0 ∷ 2 ∷ 0 ∷ 2 ∷ 0 ∷ 2 ∷ 2 ∷ 2 ∷ 0 ∷ []
+
+-- 02, M-108: a speech block that, where five of its bursts are lost, four even ones and one odd, arrives as a block of zeros does: nobody can tell them apart. Its ones are
+-- d(60), d(62), d(64), d(72), d(74), d(76), which are u(30), u(31), u(32), u(36), u(37), u(38)
+abbrev pub twin : List ℕ
+twin = tab 260 (λ k. pick (among (60 ∷ 62 ∷ 64 ∷ 72 ∷ 74 ∷ 76 ∷ []) k) 1 0)
+
+abbrev pub fiveLost : ℕ → Bool
+fiveLost k = among (0 ∷ 2 ∷ 4 ∷ 5 ∷ 6 ∷ []) (k % 8)
+
 -- u of eight bits, the last four 0, and the count
 abbrev pub decoded : List ℕ → List ℕ
 decoded r = nearest r 8 ++ (nearestCount r 8 ∷ [])
@@ -83,6 +99,10 @@ table =
     ∷ is (decoded fourAway) (0 ∷ 1 ∷ 1 ∷ 0 ∷ 0 ∷ 0 ∷ 0 ∷ 0 ∷ 4 ∷ [])
     ∷ is (decoded lossyTied) (1 ∷ 0 ∷ 0 ∷ 1 ∷ 0 ∷ 0 ∷ 0 ∷ 0 ∷ 1 ∷ [])
     ∷ is (decoded nothingCame) (0 ∷ 0 ∷ 0 ∷ 0 ∷ 0 ∷ 0 ∷ 0 ∷ 0 ∷ 0 ∷ [])
+    ∷ is (decoded evenGone) (1 ∷ 1 ∷ 1 ∷ 0 ∷ 0 ∷ 0 ∷ 0 ∷ 0 ∷ 0 ∷ [])
+    ∷ is (decoded pairsGone) (0 ∷ 0 ∷ 0 ∷ 0 ∷ 0 ∷ 0 ∷ 0 ∷ 0 ∷ 0 ∷ [])
+    ∷ is (onesFrom 0 (without fiveLost (speechSent twin (zeros 456) .left))) (183 ∷ 195 ∷ [])
+    ∷ is (onesFrom 0 (without fiveLost (speechSent (zeros 260) (zeros 456) .left))) (183 ∷ 195 ∷ [])
     ∷ is (onesFrom 0 (made lent (lit ∷ []))) (12 ∷ 20 ∷ 228 ∷ 322 ∷ 328 ∷ 336 ∷ 422 ∷ 428 ∷ 529 ∷ 537 ∷ 627 ∷ 727 ∷ 749 ∷ 827 ∷ 849 ∷ [])
     ∷ is (flagsSent (made lent (mixed 184 ∷ mixed 260 ∷ []))) (0 ∷ 1 ∷ 0 ∷ 1 ∷ 0 ∷ 1 ∷ 0 ∷ 1 ∷ 1 ∷ 0 ∷ 1 ∷ 0 ∷ 1 ∷ 0 ∷ 1 ∷ 0 ∷ 0 ∷ 0 ∷ 0 ∷ 0 ∷ 0 ∷ 0 ∷ 0 ∷ 0 ∷ [])
     ∷ is (onesFrom 0 (controlSent facchToo (zeros 456) .left)) (0 ∷ 1 ∷ 3 ∷ 6 ∷ 7 ∷ 11 ∷ 14 ∷ 15 ∷ 16 ∷ 17 ∷ 380 ∷ 381 ∷ 383 ∷ 389 ∷ 391 ∷ 392 ∷ 393 ∷ 394 ∷ 395 ∷ 397 ∷ 398 ∷ 401 ∷ 402 ∷ 404 ∷ 406 ∷ 408 ∷ 410 ∷ 412 ∷ 414 ∷ 417 ∷ 425 ∷ 426 ∷ 427 ∷ 428 ∷ 430 ∷ 431 ∷ 435 ∷ 437 ∷ 438 ∷ 439 ∷ 440 ∷ 441 ∷ 443 ∷ 444 ∷ 447 ∷ 449 ∷ 454 ∷ 455 ∷ [])
@@ -91,5 +111,5 @@ table =
     ∷ []
 
 pub examples : allHold table ≡ true
-unfolding allHold table tab tabFrom add zeros ones digits value largest noneOver isMissing occurs product lower divide remainder parity speechG controlG accessG schG back first second codedAt coded pairOf from bit way best choice walk differ pairCost rowAt nearest nearestCount placeAt bitAt flagIn cell burst four flagsOf speechP speechUAt speechU speechBlock controlU controlBlock colour accessU accessBurst schU judged entry speechSent controlSent accessSent tells sentOr blockOf freshSender sendJudged sendTold sentBursts sentNext sendAnswer endJudged endTold endBursts endAnswer afterwards sendAll made controlTaps isTap fedBack fromBelow cellAt clocked clockedIn
+unfolding allHold table tab tabFrom add zeros ones digits value largest noneOver isMissing occurs product lower divide remainder parity speechG controlG accessG schG back first second codedAt coded pairOf from bit way best choice walk differ pairCost rowAt nearest nearestCount placeAt bitAt flagIn cell burst four flagsOf speechP speechUAt speechU speechBlock controlU controlBlock colour accessU accessBurst schU judged entry speechSent controlSent accessSent tells sentOr blockOf freshSender sendJudged sendTold sentBursts sentNext sendAnswer endJudged endTold endBursts endAnswer afterwards sendAll made among without controlTaps isTap fedBack fromBelow cellAt clocked clockedIn
 examples = refl

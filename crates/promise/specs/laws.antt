@@ -3,3 +3,4 @@ pub mod Taken
 pub mod Promise
 pub mod Totals
 pub mod Ties
+pub mod Lost

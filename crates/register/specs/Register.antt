@@ -38,6 +38,10 @@ module _ (half : ℕ) where
     pathCost [] = 0
     pathCost (b ∷ h) = pathCost h + cost (length h) (state h) b
 
+    -- 02, M-108: step k tells its bit: in no state are both bits free
+    abbrev pub Tells : ℕ → Type 0
+    Tells k = (s : ℕ) → 1 ≤ cost k s 0 + cost k s 1
+
     -- w is the cheapest path of t bits that ends in s, and v is what it costs; of those that cost as much it is the first in the tie order
     pub record Least (t s v : ℕ) (w : List ℕ) : Type 0 where
       pub bits : Bits w

@@ -1,3 +1,4 @@
 pub mod Steps
 pub mod Nearest
 pub mod Distance
+pub mod Free

@@ -1,2 +1,3 @@
 pub mod Nearest
+pub mod Lost
 pub mod laws

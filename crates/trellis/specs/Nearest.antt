@@ -64,3 +64,7 @@ nearest r n = reverse (walk 8 (pairCost r) 65535 n 0)
 
 unfoldable pub nearestCount : List ℕ → ℕ → ℕ
 nearestCount r n = rowAt r n 0
+
+-- the search finds u in r: u is the nearest block, and its disagreements are the count
+abbrev pub Found : List ℕ → ℕ → List ℕ → Type 0
+Found r n u = (nearest r n ≡ u) × (nearestCount r n ≡ disagreements r (coded u))

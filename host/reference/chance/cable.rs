@@ -91,6 +91,27 @@ pub fn missing(random: &mut Random, bursts: &mut [Vec<u8>]) {
     }
 }
 
+/// The cable of a lesson on lost bursts: all, many or few of one class, those of even numbers or those
+/// of odd, never come. Of some lessons one or more of the other class are lost too, or bits altered.
+pub fn bursts(random: &mut Random, bursts: &mut [Vec<u8>]) {
+    let class = random.below(2);
+    let one_in = random.pick(&[1, 2, 2, 3, 8]);
+    let others = random.pick(&[0, 0, 0, 3, 8]);
+    for (number, e) in bursts.iter_mut().enumerate() {
+        let is_lost = match number % 2 == class {
+            true => random.one_in(one_in),
+            false => others > 0 && random.one_in(others),
+        };
+        if is_lost {
+            e.fill(MISSING);
+        }
+    }
+    if random.one_in(8) && !bursts.is_empty() {
+        let burst = random.below(bursts.len());
+        spoil_burst(random, bursts, burst);
+    }
+}
+
 /// Loses bits of a block: mostly round the weight that is borne, among bits that are protected in
 /// speech too.
 fn lose_bits(random: &mut Random, c: &mut [u8]) {
@@ -248,7 +269,7 @@ mod tests {
     fn bursts_stay_bursts() {
         let mut random = Random::new(71);
         for number in 0..20 {
-            for cable in [lesson, ties, missing, light] {
+            for cable in [lesson, ties, missing, bursts, light] {
                 let mut bursts = if number == 0 {
                     Vec::new()
                 } else {
@@ -292,6 +313,23 @@ mod tests {
                 assert_eq!(bursts[other], sent[other]);
             }
         }
+    }
+
+    #[test]
+    fn bursts_of_one_class_are_lost_whole_and_of_both_classes_sometimes() {
+        let mut random = Random::new(300);
+        let mut seen = [[0; 2]; 2];
+        for _ in 0..1000 {
+            let mut all = zeros(4);
+            bursts(&mut random, &mut all);
+            let is_lost = |e: &Vec<u8>| e.iter().all(|&bit| bit == MISSING);
+            let is_class_lost =
+                |class: usize| all.iter().skip(class).step_by(2).any(|e| is_lost(e));
+            seen[usize::from(is_class_lost(0))][usize::from(is_class_lost(1))] += 1;
+            // A burst that is not lost has nothing missing.
+            assert!(all.iter().all(|e| is_lost(e) || !e.contains(&MISSING)));
+        }
+        assert!(seen[1][0] > 200 && seen[0][1] > 200 && seen[1][1] > 100);
     }
 
     #[test]

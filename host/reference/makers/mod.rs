@@ -1,5 +1,6 @@
 //! The makers of lines for the kit and for the access sheet.
 
+mod bursts_lines;
 mod efr_lines;
 mod fields;
 mod full_lines;
@@ -38,7 +39,7 @@ pub struct Maker {
 }
 
 /// All makers.
-pub static MAKERS: [Maker; 15] = [
+pub static MAKERS: [Maker; 16] = [
     Maker {
         mode: "make-lines",
         numbers: "SEED COUNT",
@@ -98,6 +99,12 @@ pub static MAKERS: [Maker; 15] = [
         numbers: "SEED COUNT",
         with_returns: false,
         lines: missing_lines::lines,
+    },
+    Maker {
+        mode: "make-bursts",
+        numbers: "SEED COUNT",
+        with_returns: false,
+        lines: bursts_lines::lines,
     },
     Maker {
         mode: "make-efr",

@@ -23,10 +23,14 @@ pub symbol-same : (b : ℕ) → b ≤ 2 → symbol b ≡ b
 unfolding symbol
 symbol-same b h = omega arith
 
--- a byte of 2 is missing, and a bit is not
+-- a byte of 2 is missing, and no other; a bit is not
 pub missing-two : isMissing 2 ≡ true
 unfolding isMissing
 missing-two = refl
+
+pub two-missing : (r : ℕ) → isMissing r ≡ true → r ≡ 2
+unfolding isMissing
+two-missing r e = eqb-true r 2 e
 
 pub present-bit : (r : ℕ) → r ≤ 1 → isMissing r ≡ false
 unfolding isMissing
@@ -72,6 +76,25 @@ differ-le x r = by-test (isMissing r)
     by-test : (t : Bool) → pick t 0 (pick (eqb x r) 0 1) ≤ 1
     by-test true = omega arith
     by-test false = one-or-none (eqb x r)
+
+-- nothing disagrees with itself
+pub differ-itself : (x : ℕ) → differ x x ≡ 0
+unfolding differ
+differ-itself x = rw (eq-eqb x x refl) (by-test (isMissing x))
+  where
+    by-test : (t : Bool) → _≡_ {A = ℕ} (pick t 0 0) 0
+    by-test true = refl
+    by-test false = refl
+
+-- what is present disagrees with one at least of two that differ
+pub differ-either : (x y r : ℕ) → isMissing r ≡ false → (x ≡ y → ⊥) → 1 ≤ differ x r + differ y r
+unfolding differ
+differ-either x y r present other = rw present (by-tests (eqb x r) (eqb y r) refl refl)
+  where
+    by-tests : (p q : Bool) → eqb x r ≡ p → eqb y r ≡ q → 1 ≤ pick p 0 1 + pick q 0 1
+    by-tests true true ep eq = absurd (other (eqb-true x r ep ∙ sym (eqb-true y r eq)))
+    by-tests true false ep eq = omega arith
+    by-tests false q ep eq = omega arith
 
 -- where two coded bits differ, their sum is 1
 pub differ-sum : (a b : ℕ) → a ≤ 1 → b ≤ 1 → differ b a ≡ differ (sum a b) 0

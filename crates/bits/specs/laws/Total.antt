@@ -21,7 +21,12 @@ unfolding total
 total-add zero f g = refl
 total-add (suc n) f g = rw (total-add n f g) (omega arith)
 
--- where nothing is summed up, each is nothing
+-- where each is nothing, nothing is summed up; and where nothing is summed up, each is nothing
+pub total-zero : (n : ℕ) (f : ℕ → ℕ) → ((i : ℕ) → i < n → f i ≡ 0) → total n f ≡ 0
+unfolding total
+total-zero zero f h = refl
+total-zero (suc n) f h = omega (arith, total-zero n f (λ i l. h i (omega arith)), h n (omega arith))
+
 pub total-none : (n : ℕ) (f : ℕ → ℕ) → total n f ≡ 0 → (i : ℕ) → i < n → f i ≡ 0
 unfolding total
 total-none zero f e i h = let z : ⊥ = omega arith in absurd z

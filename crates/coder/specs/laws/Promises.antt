@@ -13,7 +13,7 @@ use Rattle.bits.specs.laws.Tab.{length-tab}
 use Rattle.bits.specs.laws.Value.{length-digits, bits-digits, value-digits}
 use Rattle.places.specs.Places.{gatheredAt, gathered}
 use Rattle.parity.specs.Division.{controlG, accessG, schG}
-use Rattle.trellis.specs.Nearest.{disagreements, longest}
+use Rattle.trellis.specs.Nearest.{Found, disagreements, longest}
 use Rattle.convolution.specs.Pairs.{coded}
 use Rattle.answers.specs.Answers.{Answer, returned, ofTold, ofHeard}
 use Rattle.answers.specs.declared.Heard.{Heard}
@@ -30,7 +30,7 @@ use Rattle.coder.specs.laws.Blocks.{access-long, sch-long}
 use Rattle.coder.specs.laws.Entries.{sends}
 use Rattle.coder.specs.laws.Heard.{hears-good, hears-bad}
 use Rattle.coder.specs.laws.Hearings.{control-codes, access-codes, sch-codes, message-holds, speech-hearing}
-use Rattle.coder.specs.laws.Restored.{coloured, restored-bits, restored-count, restored-good, restored-bad}
+use Rattle.coder.specs.laws.Restored.{coloured, bears-few, restored-bits, restored-count, restored-good, restored-bad}
 
 -- ---- the two answers, and what they are in 01's numbers and counts
 abbrev accepted : ℕ → List ℕ → Answer Heard
@@ -45,20 +45,14 @@ accepts a count bits e = (ap (λ (x : Answer Heard). ofHeard (x .result)) e, ap 
 pub finds-bad : (a : Answer Heard) (count : ℕ) (before : List ℕ) → a ≡ found-bad count before → FindsBad a count before
 finds-bad a count before e = (ap (λ (x : Answer Heard). ofHeard (x .result)) e, ap (λ (x : Answer Heard). x .left) e)
 
--- ---- a block that is heard near enough to what was coded: once over the generator, the identity and the length
-module _ (g : List ℕ) (i n m : ℕ) (short : n + length g + 4 ≤ longest) (d e out c : List ℕ) (bd : Bits d) (ld : length d ≡ n) (ge : Given 2 m n e out)
-    (lc : length c ≡ 2 * (n + length g + 4)) (few : 2 * disagreements c (coded (coloured g (digits (length g) i) d)) + missing c ≤ 6) where
+-- ---- a block that is found in what arrived: once over the generator, the identity and the length
+module _ (g : List ℕ) (i n m : ℕ) (d e out c : List ℕ) (bd : Bits d) (ld : length d ≡ n) (ge : Given 2 m n e out)
+    (found : Found c (length d + length g + 4) (coloured g (digits (length g) i) d)) where
   abbrev r : ℕ
   r = length g
 
   abbrev count : ℕ
   count = disagreements c (coded (coloured g (digits r i) d))
-
-  fits : length d + r + 4 ≤ longest
-  fits = omega (arith, ld, short)
-
-  long : length c ≡ 2 * (length d + r + 4)
-  long = omega (arith, ld, lc)
 
   pub comes-back : i ≤ 63 → reception m n i e (blockHeard g i n c) out ≡ accepted count d
   comes-back h =
@@ -67,10 +61,10 @@ module _ (g : List ℕ) (i n m : ℕ) (short : n + length g + 4 ≤ longest) (d 
       let ba : Bits a = bits-digits r i in
       let heard : ℕ → Hearing = λ k. blockHeard g i k c in
       hears-good m n i e out h ge (heard n) count
-      (ap (λ (k : ℕ). heard k .count) (sym ld) ∙ restored-count g a d c bd la ba fits long few i)
+      (ap (λ (k : ℕ). heard k .count) (sym ld) ∙ restored-count g a d bd la ba c found i)
       d
-      (ap (λ (k : ℕ). heard k .good) (sym ld) ∙ restored-good g a d c bd la ba fits long few i refl)
-      (ap (λ (k : ℕ). heard k .bits) (sym ld) ∙ restored-bits g a d c bd la ba fits long few i)
+      (ap (λ (k : ℕ). heard k .good) (sym ld) ∙ restored-good g a d bd la ba c found i refl)
+      (ap (λ (k : ℕ). heard k .bits) (sym ld) ∙ restored-bits g a d bd la ba c found i)
 
   pub stays-out : (j : ℕ) → j ≤ 63 → i < 2 ^ r → j < 2 ^ r → (j ≡ i → ⊥) → reception m n j e (blockHeard g j n c) out ≡ found-bad count out
   stays-out j h hi hj other =
@@ -79,39 +73,44 @@ module _ (g : List ℕ) (i n m : ℕ) (short : n + length g + 4 ≤ longest) (d 
       let ba : Bits a = bits-digits r i in
       let heard : ℕ → Hearing = λ k. blockHeard g j k c in
       hears-bad m n j e out h ge (heard n) count
-      (ap (λ (k : ℕ). heard k .count) (sym ld) ∙ restored-count g a d c bd la ba fits long few j)
+      (ap (λ (k : ℕ). heard k .count) (sym ld) ∙ restored-count g a d bd la ba c found j)
       (ap (λ (k : ℕ). heard k .good) (sym ld)
-      ∙ restored-bad g a d c bd la ba fits long few j (λ (x : digits r i ≡ digits r j). other (sym (value-digits r j hj) ∙ ap value (sym x) ∙ value-digits r i hi)))
+      ∙ restored-bad g a d bd la ba c found j (λ (x : digits r i ≡ digits r j). other (sym (value-digits r j hj) ∙ ap value (sym x) ∙ value-digits r i hi)))
 
 -- ---- what is sent, and what is heard of it: once over the above and the protected bits of what is sent
-module _ (g : List ℕ) (i n m : ℕ) (short : n + length g + 4 ≤ longest) (block protected : List ℕ → List ℕ)
-    (codes : (d : List ℕ) → length d ≡ n → Bits d → protected (block d) ≡ coded (coloured g (digits (length g) i) d))
-    (sized : (e : List ℕ) → length e ≡ m → length (protected e) ≡ 2 * (n + length g + 4)) (h : i ≤ 63)
-    (d c e out : List ℕ) (gd : Given 1 n m d c) (ge : Given 2 m n e out) (few : 2 * altered protected (entry n m i d (block d) c .left) e + missing (protected e) ≤ 6) where
+module _ (g : List ℕ) (i n m : ℕ) (block protected : List ℕ → List ℕ)
+    (codes : (d : List ℕ) → length d ≡ n → Bits d → protected (block d) ≡ coded (coloured g (digits (length g) i) d)) (h : i ≤ 63)
+    (d c e out : List ℕ) (gd : Given 1 n m d c) (ge : Given 2 m n e out) where
   sent : entry n m i d (block d) c ≡ record { result = Done; left = block d }
   sent = sends n m i d c h gd (block d)
 
-  is : protected (entry n m i d (block d) c .left) ≡ coded (coloured g (digits (length g) i) d)
-  is = ap (λ (a : Answer Told). protected (a .left)) sent ∙ codes d (gd .reads) (gd .bits)
+  pub sent-coded : protected (entry n m i d (block d) c .left) ≡ coded (coloured g (digits (length g) i) d)
+  sent-coded = ap (λ (a : Answer Told). protected (a .left)) sent ∙ codes d (gd .reads) (gd .bits)
 
-  fewer : 2 * disagreements (protected e) (coded (coloured g (digits (length g) i) d)) + missing (protected e) ≤ 6
-  fewer = subst (λ (x : List ℕ). 2 * disagreements (protected e) x + missing (protected e) ≤ 6) is few
+  module _ (found : Found (protected e) (length d + length g + 4) (coloured g (digits (length g) i) d)) where
+    pub kept : Back (entry n m i d (block d) c) (reception m n i e (blockHeard g i n (protected e)) out) (altered protected (entry n m i d (block d) c .left) e) d
+    kept = (
+      ap (λ (a : Answer Told). ofTold (a .result)) sent,
+      accepts (reception m n i e (blockHeard g i n (protected e)) out) (altered protected (entry n m i d (block d) c .left) e) d
+          (comes-back g i n m d e out (protected e) (gd .bits) (gd .reads) ge found h
+          ∙ ap (λ (x : List ℕ). accepted (disagreements (protected e) x) d) (sym sent-coded)),
+    )
 
-  pub kept : (ofTold (entry n m i d (block d) c .result) ≡ returned None None)
-      × Accepts (reception m n i e (blockHeard g i n (protected e)) out) (altered protected (entry n m i d (block d) c .left) e) d
-  kept = (
-    ap (λ (a : Answer Told). ofTold (a .result)) sent,
-    accepts (reception m n i e (blockHeard g i n (protected e)) out) (altered protected (entry n m i d (block d) c .left) e) d
-        (comes-back g i n m short d e out (protected e) (gd .bits) (gd .reads) ge (sized e (ge .reads)) fewer h
-        ∙ ap (λ (x : List ℕ). accepted (disagreements (protected e) x) d) (sym is)),
-  )
+    pub kept-out : (j : ℕ) → j ≤ 63 → i < 2 ^ length g → j < 2 ^ length g → (j ≡ i → ⊥)
+        → FindsBad (reception m n j e (blockHeard g j n (protected e)) out) (altered protected (entry n m i d (block d) c .left) e) out
+    kept-out j hj li lj other =
+        finds-bad (reception m n j e (blockHeard g j n (protected e)) out) (altered protected (entry n m i d (block d) c .left) e) out
+        (stays-out g i n m d e out (protected e) (gd .bits) (gd .reads) ge found j hj li lj other
+        ∙ ap (λ (x : List ℕ). found-bad (disagreements (protected e) x) out) (sym sent-coded))
 
-  pub kept-out : (j : ℕ) → j ≤ 63 → i < 2 ^ length g → j < 2 ^ length g → (j ≡ i → ⊥)
-      → FindsBad (reception m n j e (blockHeard g j n (protected e)) out) (altered protected (entry n m i d (block d) c .left) e) out
-  kept-out j hj li lj other =
-      finds-bad (reception m n j e (blockHeard g j n (protected e)) out) (altered protected (entry n m i d (block d) c .left) e) out
-      (stays-out g i n m short d e out (protected e) (gd .bits) (gd .reads) ge (sized e (ge .reads)) fewer j hj li lj other
-      ∙ ap (λ (x : List ℕ). found-bad (disagreements (protected e) x) out) (sym is))
+  -- where few bits are altered or missing it is found
+  module _ (short : n + length g + 4 ≤ longest) (sized : (e : List ℕ) → length e ≡ m → length (protected e) ≡ 2 * (n + length g + 4))
+      (few : 2 * altered protected (entry n m i d (block d) c .left) e + missing (protected e) ≤ 6) where
+    pub few-found : Found (protected e) (length d + length g + 4) (coloured g (digits (length g) i) d)
+    few-found =
+        bears-few g (digits (length g) i) d (gd .bits) (length-digits (length g) i) (bits-digits (length g) i) (protected e)
+        (omega (arith, gd .reads, short)) (omega (arith, gd .reads, sized e (ge .reads)))
+        (subst (λ (x : List ℕ). 2 * disagreements (protected e) x + missing (protected e) ≤ 6) sent-coded few)
 
 -- the lengths of what is protected
 control-sized : (e : List ℕ) → length e ≡ 456 → length (whole e) ≡ 2 * (184 + length controlG + 4)
@@ -130,23 +129,36 @@ sch-sized e l = omega (arith, l, sch-long)
 -- ---- 02, M-102: what each channel bears
 pub control-bears : ControlBears
 unfolding controlSent controlReceived
-control-bears = kept controlG 0 184 456 (omega (arith, control-long)) controlBlock whole control-codes control-sized (lit≤ tt)
+control-bears d c e out gd ge few =
+    kept controlG 0 184 456 controlBlock whole control-codes (lit≤ tt) d c e out gd ge
+    (few-found controlG 0 184 456 controlBlock whole control-codes (lit≤ tt) d c e out gd ge (omega (arith, control-long)) control-sized few)
 
 pub sch-bears : SchBears
 unfolding schSent schReceived
-sch-bears = kept schG 0 25 78 (omega (arith, sch-long)) schBurst whole sch-codes sch-sized (lit≤ tt)
+sch-bears d c e out gd ge few =
+    kept schG 0 25 78 schBurst whole sch-codes (lit≤ tt) d c e out gd ge
+    (few-found schG 0 25 78 schBurst whole sch-codes (lit≤ tt) d c e out gd ge (omega (arith, sch-long)) sch-sized few)
+
+pub message-codes : (d : List ℕ) → length d ≡ 184 → Bits d → gathered (sacchMessage d) ≡ coded (coloured controlG (digits (length controlG) 0) d)
+message-codes d ld bd = message-holds d ld bd ∙ control-codes d ld bd
 
 pub sacch-bears : SacchBears
 unfolding sacchSent sacchReceived
-sacch-bears = kept controlG 0 184 464 (omega (arith, control-long)) sacchMessage gathered (λ d ld bd. message-holds d ld bd ∙ control-codes d ld bd) message-sized (lit≤ tt)
+sacch-bears d c e out gd ge few =
+    kept controlG 0 184 464 sacchMessage gathered message-codes (lit≤ tt) d c e out gd ge
+    (few-found controlG 0 184 464 sacchMessage gathered message-codes (lit≤ tt) d c e out gd ge (omega (arith, control-long)) message-sized few)
 
 pub access-bears : AccessBears
 unfolding accessSent accessReceived
 access-bears i hi =
     let short : 8 + length accessG + 4 ≤ longest = omega (arith, access-long) in
     let below : (x : ℕ) → x ≤ 63 → x < 2 ^ length accessG = λ (x : ℕ) (h : x ≤ 63). subst (λ (k : ℕ). x < 2 ^ k) (sym access-long) (omega arith) in (
-      kept accessG i 8 36 short (accessBurst i) whole (access-codes i) access-sized hi,
-      λ j hj other d c e out gd ge few. kept-out accessG i 8 36 short (accessBurst i) whole (access-codes i) access-sized hi d c e out gd ge few j hj (below i hi) (below j hj) other,
+      λ d c e out gd ge few.
+          kept accessG i 8 36 (accessBurst i) whole (access-codes i) hi d c e out gd ge
+          (few-found accessG i 8 36 (accessBurst i) whole (access-codes i) hi d c e out gd ge short access-sized few),
+      λ j hj other d c e out gd ge few.
+          kept-out accessG i 8 36 (accessBurst i) whole (access-codes i) hi d c e out gd ge
+          (few-found accessG i 8 36 (accessBurst i) whole (access-codes i) hi d c e out gd ge short access-sized few) j hj (below i hi) (below j hj) other,
     )
 
 pub speech-bears : SpeechBears

@@ -1,5 +1,4 @@
--- A block that was coded, and of which t bits were altered and m are missing, 2t + m at most 6, is heard as it was, once over its length, the generator and
--- the colour.
+-- A block that was coded, and that the search finds in what arrived, is heard as it was, once over its length, the generator and the colour.
 use mathlib.Core.Bool.{true, false}
 use mathlib.Core.List.{List, _++_, append-assoc}
 use mathlib.Core.Path.{_≡_, refl, sym, ap, ap₂, _∙_, subst}
@@ -14,7 +13,7 @@ use Rattle.bits.specs.laws.Sum.{length-ones, length-zeros, bits-ones, bits-zero
 use Rattle.bits.specs.laws.Value.{length-digits, bits-digits, digits-value}
 use Rattle.parity.specs.Division.{parity, remainder}
 use Rattle.parity.specs.laws.Division.{length-parity, bits-parity, parity-leaves, parity-only, remainder-after}
-use Rattle.trellis.specs.Nearest.{Candidate, disagreements, nearest, longest}
+use Rattle.trellis.specs.Nearest.{Candidate, Found, disagreements, nearest, longest}
 use Rattle.convolution.specs.Pairs.{coded}
 use Rattle.trellis.specs.laws.Distance.{corrected}
 use Rattle.coder.specs.Received.{allOnes, blockHeard}
@@ -72,9 +71,7 @@ module _ (g d : List ℕ) (bd : Bits d) where
 unfoldable pub coloured : List ℕ → List ℕ → List ℕ → List ℕ
 coloured g a d = d ++ (add (parity g d) a ++ zeros 4)
 
-module _ (g a d c : List ℕ) (bd : Bits d) (la : length a ≡ length g) (ba : Bits a)
-    (short : length d + length g + 4 ≤ longest) (lc : length c ≡ 2 * (length d + length g + 4))
-    (few : 2 * disagreements c (coded (coloured g a d)) + missing c ≤ 6) where
+module _ (g a d : List ℕ) (bd : Bits d) (la : length a ≡ length g) (ba : Bits a) where
   abbrev n : ℕ
   n = length d + length g + 4
 
@@ -91,43 +88,46 @@ module _ (g a d c : List ℕ) (bd : Bits d) (la : length a ≡ length g) (ba : B
   front-long : length (d ++ checks) ≡ n - 4
   front-long = length-append d checks ∙ ap (λ (k : ℕ). length d + k) checks-long ∙ omega arith
 
-  candidate : Candidate n (coloured g a d)
+  pub coloured-candidate : Candidate (length d + length g + 4) (coloured g a d)
   unfolding coloured
-  candidate = record {
+  coloured-candidate = record {
     bits = bits-append d (checks ++ zeros 4) bd (bits-append checks (zeros 4) (bits-add (parity g d) a ba) (bits-zeros 4));
     long = rw (length-append d (checks ++ zeros 4), length-append checks (zeros 4), checks-long, length-zeros 4) (omega arith);
     ends = ap (drop (n - 4)) front ∙ drop-at (d ++ checks) (zeros 4) (n - 4) front-long;
   }
 
-  restored : nearest c n ≡ coloured g a d
-  restored = corrected n c (coloured g a d) candidate lc short few .0
+  -- 02, M-102: where t bits were altered and m are missing, 2t + m at most 6, it is found
+  pub bears-few : (c : List ℕ) → length d + length g + 4 ≤ longest → length c ≡ 2 * (length d + length g + 4) → 2 * disagreements c (coded (coloured g a d)) + missing c ≤ 6
+      → Found c (length d + length g + 4) (coloured g a d)
+  bears-few c short lc few = corrected n c (coloured g a d) coloured-candidate lc short few
 
-  -- the bits and the count
-  pub restored-bits : (j : ℕ) → blockHeard g j (length d) c .bits ≡ d
-  unfolding blockHeard coloured
-  restored-bits j = ap (take (length d)) restored ∙ take-at d (checks ++ zeros 4) (length d) refl
+  module _ (c : List ℕ) (found : Found c (length d + length g + 4) (coloured g a d)) where
+    -- the bits and the count
+    pub restored-bits : (j : ℕ) → blockHeard g j (length d) c .bits ≡ d
+    unfolding blockHeard coloured
+    restored-bits j = ap (take (length d)) (found .0) ∙ take-at d (checks ++ zeros 4) (length d) refl
 
-  pub restored-count : (j : ℕ) → blockHeard g j (length d) c .count ≡ disagreements c (coded (coloured g a d))
-  unfolding blockHeard
-  restored-count j = corrected n c (coloured g a d) candidate lc short few .1
+    pub restored-count : (j : ℕ) → blockHeard g j (length d) c .count ≡ disagreements c (coded (coloured g a d))
+    unfolding blockHeard
+    restored-count j = found .1
 
-  -- the verdict
-  verdict-of : (j : ℕ) → blockHeard g j (length d) c .good ≡ allOnes g (d ++ add checks (digits (length g) j))
-  unfolding blockHeard coloured
-  verdict-of j =
-      let tail : take (length g) (drop (length d) (nearest c n)) ≡ checks =
-      ap (λ (u : List ℕ). take (length g) (drop (length d) u)) restored
-      ∙ ap (take (length g)) (drop-at d (checks ++ zeros 4) (length d) refl)
-      ∙ take-at checks (zeros 4) (length g) checks-long in
-      ap₂ (λ (x y : List ℕ). allOnes g (x ++ add y (digits (length g) j)))
-      (ap (take (length d)) restored ∙ take-at d (checks ++ zeros 4) (length d) refl) tail
+    -- the verdict
+    verdict-of : (j : ℕ) → blockHeard g j (length d) c .good ≡ allOnes g (d ++ add checks (digits (length g) j))
+    unfolding blockHeard coloured
+    verdict-of j =
+        let tail : take (length g) (drop (length d) (nearest c n)) ≡ checks =
+        ap (λ (u : List ℕ). take (length g) (drop (length d) u)) (found .0)
+        ∙ ap (take (length g)) (drop-at d (checks ++ zeros 4) (length d) refl)
+        ∙ take-at checks (zeros 4) (length g) checks-long in
+        ap₂ (λ (x y : List ℕ). allOnes g (x ++ add y (digits (length g) j)))
+        (ap (take (length d)) (found .0) ∙ take-at d (checks ++ zeros 4) (length d) refl) tail
 
-  pub restored-good : (j : ℕ) → a ≡ digits (length g) j → blockHeard g j (length d) c .good ≡ true
-  restored-good j e =
-      verdict-of j
-      ∙ ap (λ (x : List ℕ). allOnes g (d ++ add (add (parity g d) x) (digits (length g) j))) e
-      ∙ same-colour g d bd (digits (length g) j) (length-digits (length g) j) (bits-digits (length g) j)
+    pub restored-good : (j : ℕ) → a ≡ digits (length g) j → blockHeard g j (length d) c .good ≡ true
+    restored-good j e =
+        verdict-of j
+        ∙ ap (λ (x : List ℕ). allOnes g (d ++ add (add (parity g d) x) (digits (length g) j))) e
+        ∙ same-colour g d bd (digits (length g) j) (length-digits (length g) j) (bits-digits (length g) j)
 
-  pub restored-bad : (j : ℕ) → (a ≡ digits (length g) j → ⊥) → blockHeard g j (length d) c .good ≡ false
-  restored-bad j other =
-      verdict-of j ∙ other-colour g d bd a (digits (length g) j) la (length-digits (length g) j) ba (bits-digits (length g) j) other
+    pub restored-bad : (j : ℕ) → (a ≡ digits (length g) j → ⊥) → blockHeard g j (length d) c .good ≡ false
+    restored-bad j other =
+        verdict-of j ∙ other-colour g d bd a (digits (length g) j) la (length-digits (length g) j) ba (bits-digits (length g) j) other

@@ -1,4 +1,4 @@
--- A speech block of whose 378 protected bits t were altered and m are missing, 2t + m at most 6, is heard as it was.
+-- A speech block that the search finds in the 378 protected bits that arrived is heard as it was.
 use mathlib.Core.Bool.{true}
 use mathlib.Core.List.{List, _++_}
 use mathlib.Core.Logic.{⊎-elim}
@@ -9,7 +9,7 @@ use lib.Dec.{lit≤}
 use lib.ListN.{length, getD, take, drop, length-drop, getD-replicate}
 use lib.Seq.{length-take-le, take-take, getD-take, getD-drop, ext-getD}
 use borrow.Author.Tests.{eq-eqb, ne-eqb}
-use Rattle.bits.specs.Bits.{Bits, givenBits, missing, tab, value, ones, zeros}
+use Rattle.bits.specs.Bits.{Bits, givenBits, tab, value, ones, zeros}
 use Rattle.bits.specs.laws.Cases.{lt-or-le}
 use Rattle.bits.specs.laws.Parts.{length-lent}
 use Rattle.bits.specs.laws.Sum.{bits-take, length-zeros}
@@ -18,9 +18,8 @@ use Rattle.bits.specs.laws.Value.{length-digits}
 use Rattle.parity.specs.Division.{remainder, speechG}
 use Rattle.parity.specs.laws.Division.{length-parity, parity-leaves}
 use Rattle.parity.specs.laws.Generators.{speech-number}
-use Rattle.trellis.specs.Nearest.{Candidate, disagreements, nearest}
+use Rattle.trellis.specs.Nearest.{Candidate, Found, disagreements}
 use Rattle.convolution.specs.Pairs.{coded}
-use Rattle.trellis.specs.laws.Distance.{corrected}
 use Rattle.coder.specs.Blocks.{speechP, speechU}
 use Rattle.coder.specs.Received.{allOnes, speechDAt, speechHeard}
 use Rattle.coder.specs.laws.Order.{even-bits, odd-bits, parity-bits, tail-bits}
@@ -58,25 +57,22 @@ module _ (d : List ℕ) (ld : length d ≡ 260) (bd : Bits d) where
       ext-getD 0 (drop 185 (speechU d)) (zeros 4) (l ∙ sym (length-zeros 4))
       (λ i h. getD-drop 185 (speechU d) i 0 ∙ tail-bits d i (omega (arith, l)) ∙ sym (getD-replicate 4 i 0 0 (omega (arith, l))))
 
-  candidate : Candidate 189 (speechU d)
-  candidate = record { bits = bits-u d bd ld; long = length-u d bd ld; ends = ends }
+  pub speech-candidate : Candidate 189 (speechU d)
+  speech-candidate = record { bits = bits-u d bd ld; long = length-u d bd ld; ends = ends }
 
   -- ---- what is heard of it
-  module _ (c : List ℕ) (lc : length (take 378 c) ≡ 378) (few : 2 * disagreements (take 378 c) (coded (speechU d)) + missing (take 378 c) ≤ 6) where
-    restored : nearest (take 378 c) 189 ≡ speechU d
-    restored = corrected 189 (take 378 c) (speechU d) candidate lc (lit≤ tt) few .0
-
+  module _ (c : List ℕ) (found : Found (take 378 c) 189 (speechU d)) where
     pub speech-count : speechHeard c .count ≡ disagreements (take 378 c) (coded (speechU d))
     unfolding speechHeard
-    speech-count = corrected 189 (take 378 c) (speechU d) candidate lc (lit≤ tt) few .1
+    speech-count = found .1
 
     pub speech-bits : speechHeard c .bits ≡ take 182 d ++ givenBits (drop 378 c)
     unfolding speechHeard
-    speech-bits = ap (λ (u : List ℕ). tab 182 (speechDAt u) ++ givenBits (drop 378 c)) restored ∙ ap (λ (x : List ℕ). x ++ givenBits (drop 378 c)) first-bits
+    speech-bits = ap (λ (u : List ℕ). tab 182 (speechDAt u) ++ givenBits (drop 378 c)) (found .0) ∙ ap (λ (x : List ℕ). x ++ givenBits (drop 378 c)) first-bits
 
     pub speech-good : speechHeard c .good ≡ true
     unfolding speechHeard allOnes speechP
     speech-good =
-        ap (λ (u : List ℕ). allOnes speechG (take 50 (tab 182 (speechDAt u)) ++ take 3 (drop 91 u))) restored
+        ap (λ (u : List ℕ). allOnes speechG (take 50 (tab 182 (speechDAt u)) ++ take 3 (drop 91 u))) (found .0)
         ∙ ap₂ (λ (x y : List ℕ). allOnes speechG (x ++ y)) (ap (take 50) first-bits ∙ take-take 50 182 d (lit≤ tt)) middle
         ∙ eq-eqb (value (remainder speechG (take 50 d ++ speechP d))) (value (ones (length speechG))) (ap value (parity-leaves speechG (take 50 d) (bits-take 50 d bd)))

@@ -11,7 +11,7 @@ use lib.ListN.{length, getD}
 use borrow.Author.Tests.{lt-ltb, le-ltb}
 use Rattle.bits.specs.Bits.{Bits, pick}
 use Rattle.bits.specs.laws.Cases.{lt-or-le}
-use Rattle.bits.specs.laws.Tab.{length-tab, even-place, odd-place}
+use Rattle.bits.specs.laws.Tab.{length-tab, bits-tab, even-place, odd-place}
 use Rattle.bits.specs.laws.Value.{xor-bits}
 use Rattle.convolution.specs.Pairs.{back, first, second, codedAt, coded, stateAt, pairOf}
 
@@ -69,6 +69,10 @@ codedAt-bit u i = either (eqb (i % 2) 0)
     either : (t : Bool) → pick t (first u (i / 2)) (second u (i / 2)) ≤ 1
     either true = omega (arith, first-lt u (i / 2))
     either false = omega (arith, second-lt u (i / 2))
+
+pub bits-coded : (u : List ℕ) → Bits (coded u)
+unfolding coded
+bits-coded u = bits-tab (2 * length u) (codedAt u) (codedAt-bit u)
 
 -- ---- a sum modulo 2 is made bit by bit
 sum-xor : (a b c : ℕ) → a ≤ 1 → b ≤ 1 → c ≤ 1 → bitXor (bitXor a b) c ≡ (a + b + c) % 2

@@ -5,8 +5,9 @@ use mathlib.Core.Logic.{⊎-elim}
 use mathlib.Core.Path.{_≡_, refl, sym, ap, ap₂, _∙_, subst, subst₂}
 use Prim.Native.Nat.{ℕ, zero, suc, _+_, _*_, _/_, _%_, _≤_, _<_}
 use native.Mathlib.Omega.{arith}
-use lib.Dec.{ltb, eqb}
+use lib.Dec.{ltb, eqb, lit≤}
 use lib.ListN.{length, getD, take, drop}
+use lib.Seq.{length-take-le}
 use borrow.Author.Tests.{eqb-true}
 use lib.Count.{ones}
 use Rattle.answers.specs.Answers.{Answer, Meets}
@@ -20,12 +21,15 @@ use Rattle.places.specs.Places.{eAt, hl, hu}
 use Rattle.burst.specs.Held.{saying, sayers}
 use Rattle.burst.specs.laws.Held.{sayers-ones}
 use Rattle.places.specs.laws.Places.{every-bit}
-use Rattle.coder.specs.Blocks.{speechBlock, controlBlock}
+use Rattle.coder.specs.Blocks.{speechU, speechBlock, controlU, controlBlock}
 use Rattle.coder.specs.Received.{Hearing, blockHeard, speechHeard}
-use Rattle.coder.specs.laws.Blocks.{control-size, speech-size}
-use Rattle.coder.specs.laws.Hearings.{control-hearing, speech-hearing}
+use Rattle.coder.specs.laws.Blocks.{control-size, speech-size, speech-pairs}
+use Rattle.coder.specs.laws.Hearings.{control-candidate, control-found, speech-found}
+use Rattle.coder.specs.laws.SpeechRestored.{speech-candidate}
 use Rattle.parity.specs.Division.{controlG}
-use Rattle.trellis.specs.Nearest.{disagreements}
+use Rattle.convolution.specs.Pairs.{coded}
+use Rattle.trellis.specs.Nearest.{disagreements, Candidate, Found, longest}
+use Rattle.trellis.specs.laws.Distance.{corrected}
 use Rattle.chart.specs.Answers.{ofTaken}
 use Rattle.kinds.specs.Kinds.{vote, byKind, speechOf, facchOf, goodOrBad}
 use Rattle.kinds.specs.laws.Kinds.{vote-few, vote-many, vote-even}
@@ -36,7 +40,8 @@ use Rattle.chart.specs.declared.Taken.the-variants.{Speech, Facch}
 use Rattle.chart.specs.declared.Kind.{Kind}
 use Rattle.chart.specs.declared.Kind.the-variants as kind
 use Rattle.stream.specs.declared.receiver.Received.{Received}
-use Rattle.promise.specs.Promise.{Valid, Lesson, made, blockBits, blockFlags, protected, bitsAltered, bitsMissing, flagsAltered, flagsMissing, kindOf, bitsOut, takenAt, Brings, Answers, flagsThat, answerFor, flagsSaying, StreamBears, StreamPromise, BurstsMade, IdleHalves, Locality, StreamNearest, NeverAThird}
+use Rattle.promise.specs.Promise.{Valid, Lesson, made, Arrives, blockBits, blockFlags, protected, bitsAltered, bitsMissing, flagsAltered, flagsMissing, kindOf, bitsOut, takenAt, Brings, Answers, flagsThat, answerFor, flagsSaying, StreamBears, StreamPromise, BurstsMade, IdleHalves, Locality, StreamNearest, NeverAThird}
+use Rattle.promise.specs.Lost.{pairsOf}
 use Rattle.promise.specs.laws.Sent.{fresh-able, sent-bit, sent-flag, all-done, first-idle, last-idle}
 use Rattle.promise.specs.laws.Taken.{flag-in, brings-block, brings-nothing}
 
@@ -164,7 +169,7 @@ module _ (d : List ℕ) (n k : ℕ) (c out : List ℕ) (a : Answer Received) whe
   comes-back m = by-kind (isFacch (length d)) m
 
 -- ---- what was sent stands at block n's places
-is-speech : (d : List ℕ) → isBlock (length d) ≡ true → isFacch (length d) ≡ false → length d ≡ 260
+pub is-speech : (d : List ℕ) → isBlock (length d) ≡ true → isFacch (length d) ≡ false → length d ≡ 260
 is-speech d block e = by-test (eqb (length d) 260) refl
   where
     by-test : (b : Bool) → eqb (length d) 260 ≡ b → length d ≡ 260
@@ -180,13 +185,64 @@ block-size d v = by-kind (isFacch (length d)) refl
     by-kind false e = speech-size d (is-speech d (v .kind) e) (v .bits)
 
 -- ---- of FACCH every bit is protected, of speech the first 378
-protected-facch : (d c : List ℕ) → isFacch (length d) ≡ true → protected d c ≡ c
+pub protected-facch : (d c : List ℕ) → isFacch (length d) ≡ true → protected d c ≡ c
 unfolding protected
 protected-facch d c e = rw e refl
 
-protected-speech : (d c : List ℕ) → isFacch (length d) ≡ false → protected d c ≡ take 378 c
+pub protected-speech : (d c : List ℕ) → isFacch (length d) ≡ false → protected d c ≡ take 378 c
 unfolding protected
 protected-speech d c e = rw e refl
+
+-- the length of what is protected
+pub protected-long : (d c : List ℕ) → length c ≡ 456 → length (protected d c) ≡ 2 * pairsOf d
+unfolding pairsOf
+protected-long d c l = by-kind (isFacch (length d)) refl
+  where
+    by-kind : (b : Bool) → isFacch (length d) ≡ b → length (protected d c) ≡ 2 * pick b 228 189
+    by-kind true e = ap length (protected-facch d c e) ∙ l
+    by-kind false e = ap length (protected-speech d c e) ∙ length-take-le 378 c (omega (arith, l))
+
+-- ---- u of a block, a candidate; the protected bits of what is sent are its pairs
+unfoldable pub uOf : List ℕ → List ℕ
+uOf d = pick (isFacch (length d)) (controlU d) (speechU d)
+
+pub pairs-short : (d : List ℕ) → pairsOf d ≤ longest
+unfolding pairsOf
+pairs-short d = by-kind (isFacch (length d))
+  where
+    by-kind : (b : Bool) → pick b 228 189 ≤ longest
+    by-kind true = lit≤ tt
+    by-kind false = lit≤ tt
+
+pub candidate-of : (d : List ℕ) → Valid d → Candidate (pairsOf d) (uOf d)
+unfolding pairsOf uOf
+candidate-of d v = by-kind (isFacch (length d)) refl
+  where
+    by-kind : (b : Bool) → isFacch (length d) ≡ b → Candidate (pick b 228 189) (pick b (controlU d) (speechU d))
+    by-kind true e = control-candidate d (eqb-true (length d) 184 e) (v .bits)
+    by-kind false e = speech-candidate d (is-speech d (v .kind) e) (v .bits)
+
+pub protected-coded : (d : List ℕ) → Valid d → protected d (blockOf d) ≡ coded (uOf d)
+unfolding blockOf uOf controlBlock
+protected-coded d v = by-kind (isFacch (length d)) refl
+  where
+    by-kind : (b : Bool) → isFacch (length d) ≡ b → protected d (pick b (controlBlock d) (speechBlock d)) ≡ coded (pick b (controlU d) (speechU d))
+    by-kind true e = protected-facch d (controlBlock d) e
+    by-kind false e = protected-speech d (speechBlock d) e ∙ speech-pairs d (is-speech d (v .kind) e) (v .bits)
+
+-- the search finds the block in what arrived of its protected bits
+abbrev pub FoundAs : List ℕ → List ℕ → Type 0
+FoundAs d c = Found (protected d c) (pairsOf d) (uOf d)
+
+found-facch : (d c : List ℕ) → isFacch (length d) ≡ true → FoundAs d c → Found c 228 (controlU d)
+unfolding pairsOf uOf
+found-facch d c e f =
+    subst (λ (x : List ℕ). Found x 228 (controlU d)) (protected-facch d c e) (subst (λ (b : Bool). Found (protected d c) (pick b 228 189) (pick b (controlU d) (speechU d))) e f)
+
+found-speech : (d c : List ℕ) → isFacch (length d) ≡ false → FoundAs d c → Found (take 378 c) 189 (speechU d)
+unfolding pairsOf uOf
+found-speech d c e f =
+    subst (λ (x : List ℕ). Found x 189 (speechU d)) (protected-speech d c e) (subst (λ (b : Bool). Found (protected d c) (pick b 228 189) (pick b (controlU d) (speechU d))) e f)
 
 module _ (ds : List (List ℕ)) (lesson : Lesson ds) (lent : ℕ → List ℕ) (ll : (i : ℕ) → length (lent i) ≡ 464) (n : ℕ) (h : n < length ds) where
   abbrev d : List ℕ
@@ -195,29 +251,29 @@ module _ (ds : List (List ℕ)) (lesson : Lesson ds) (lent : ℕ → List ℕ) (
   abbrev sent : List ℕ
   sent = made lent ds
 
-  valid : Valid d
+  pub valid : Valid d
   valid = lesson .each n h
 
-  sent-own : blockBits sent n ≡ blockOf d
+  pub sent-own : blockBits sent n ≡ blockOf d
   unfolding blockBits firstBurst made
   sent-own =
       sym (is-tab 456 (λ k. getD sent (116 * (4 * n + k % 8) + eAt k) 0) (blockOf d) (block-size d valid)
       (λ k l. sym (sent-bit freshSender lent ll ds (fresh-able (length ds) (lesson .some) (lesson .most)) (lesson .each) n k h l)))
 
-  sent-flags : (i : ℕ) → i < 8 → getD (blockFlags sent n) i 0 ≡ flagOf (isFacch (length d))
+  pub sent-flags : (i : ℕ) → i < 8 → getD (blockFlags sent n) i 0 ≡ flagOf (isFacch (length d))
   unfolding blockFlags firstBurst made
   sent-flags i l =
       at-tab 8 (λ i. getD sent (116 * (4 * n + i) + pick (ltb i 4) hu hl) 0) i l
       ∙ sent-flag freshSender lent ll ds (fresh-able (length ds) (lesson .some) (lesson .most)) (lesson .each) n i h l
 
-  flags-differ : (rx : List ℕ) → flagsAltered sent rx n ≡ total 8 (λ i. differ (flagOf (isFacch (length d))) (getD (blockFlags rx n) i 0))
+  pub flags-differ : (rx : List ℕ) → flagsAltered sent rx n ≡ total 8 (λ i. differ (flagOf (isFacch (length d))) (getD (blockFlags rx n) i 0))
   unfolding flagsAltered disagreements blockFlags
   flags-differ rx =
       ap (λ (m : ℕ). total m (λ i. differ (getD (blockFlags sent n) i 0) (getD (blockFlags rx n) i 0))) (length-tab 8 (λ i. getD sent (116 * (firstBurst n + i) + pick (ltb i 4) hu hl) 0))
       ∙ total-same 8 (λ i. differ (getD (blockFlags sent n) i 0) (getD (blockFlags rx n) i 0)) (λ i. differ (flagOf (isFacch (length d))) (getD (blockFlags rx n) i 0))
       (λ i l. ap (λ (x : ℕ). differ x (getD (blockFlags rx n) i 0)) (sent-flags i l))
 
-  flags-lost : (rx : List ℕ) → flagsMissing rx n ≡ total 8 (λ i. lost (getD (blockFlags rx n) i 0))
+  pub flags-lost : (rx : List ℕ) → flagsMissing rx n ≡ total 8 (λ i. lost (getD (blockFlags rx n) i 0))
   unfolding flagsMissing missing blockFlags
   flags-lost rx = ap (λ (m : ℕ). total m (λ i. lost (getD (blockFlags rx n) i 0))) (length-tab 8 (λ i. getD rx (116 * (firstBurst n + i) + pick (ltb i 4) hu hl) 0))
 
@@ -239,8 +295,8 @@ module _ (ds : List (List ℕ)) (lesson : Lesson ds) (lent : ℕ → List ℕ) (
     pub vote-ties : 2 * flagsAltered sent rx n + flagsMissing rx n ≡ 8 → vote (flagsThat 1 rx n) (flagsThat 0 rx n) ≡ kind.Neither
     vote-ties eight = as-neither flag flag-symbols (isFacch (length d)) (sym harmed ∙ eight)
 
-  -- ---- what is heard of it: the block as sent, good, and the number altered
-  module _ (rx : List ℕ) (few : 2 * bitsAltered d sent rx n + bitsMissing d rx n ≤ 6) where
+  -- ---- what is heard of it where the search finds it: the block as sent, good, and the number altered
+  module _ (rx : List ℕ) where
     abbrev arrived : List ℕ
     arrived = blockBits rx n
 
@@ -248,26 +304,41 @@ module _ (ds : List (List ℕ)) (lesson : Lesson ds) (lent : ℕ → List ℕ) (
     unfolding blockBits
     arrived-long = length-tab 456 (λ k. getD rx (116 * (firstBurst n + k % 8) + eAt k) 0)
 
-    pub facch-heard : isFacch (length d) ≡ true → blockHeard controlG 0 184 arrived ≡ record { bits = d; good = true; count = bitsAltered d sent rx n }
-    unfolding bitsAltered bitsMissing blockOf
-    facch-heard e =
-        let block : blockBits sent n ≡ controlBlock d = sent-own ∙ ap (λ (b : Bool). pick b (controlBlock d) (speechBlock d)) e in
-        let count : bitsAltered d sent rx n ≡ disagreements arrived (controlBlock d) =
-        ap₂ disagreements (protected-facch d arrived e) (protected-facch d (blockBits sent n) e ∙ block) in
-        control-hearing d arrived (eqb-true (length d) 184 e) (valid .bits) arrived-long (subst₂ (λ (t m : ℕ). 2 * t + m ≤ 6) count (ap missing (protected-facch d arrived e)) few)
-        ∙ ap (λ (k : ℕ). record { bits = d; good = true; count = k }) (sym count)
+    -- what is sent of its protected bits are the pairs of u
+    pub sent-pairs : protected d (blockBits sent n) ≡ coded (uOf d)
+    sent-pairs = ap (protected d) sent-own ∙ protected-coded d valid
 
-    pub speech-heard : isFacch (length d) ≡ false → speechHeard arrived ≡ record { bits = take 182 d ++ drop 378 (givenBits arrived); good = true; count = bitsAltered d sent rx n }
-    unfolding bitsAltered bitsMissing blockOf
-    speech-heard e =
-        let block : blockBits sent n ≡ speechBlock d = sent-own ∙ ap (λ (b : Bool). pick b (controlBlock d) (speechBlock d)) e in
-        let count : bitsAltered d sent rx n ≡ disagreements (take 378 arrived) (take 378 (speechBlock d)) =
-        ap₂ disagreements (protected-speech d arrived e) (protected-speech d (blockBits sent n) e ∙ ap (take 378) block) in
-        speech-hearing d arrived (is-speech d (valid .kind) e) (valid .bits) arrived-long (subst₂ (λ (t m : ℕ). 2 * t + m ≤ 6) count (ap missing (protected-speech d arrived e)) few)
-        ∙ ap₂ (λ (w : List ℕ) (k : ℕ). record { bits = take 182 d ++ w; good = true; count = k }) (sym (given-drop 378 arrived)) (sym count)
+    pub arrived-pairs : length (protected d arrived) ≡ 2 * pairsOf d
+    arrived-pairs = protected-long d arrived arrived-long
+
+    -- 02, M-102: few altered and missing bits
+    pub few-found : 2 * bitsAltered d sent rx n + bitsMissing d rx n ≤ 6 → FoundAs d arrived
+    unfolding bitsAltered bitsMissing
+    few-found few =
+        corrected (pairsOf d) (protected d arrived) (uOf d) (candidate-of d valid) arrived-pairs (pairs-short d)
+        (subst (λ (c : List ℕ). 2 * disagreements (protected d arrived) c + missing (protected d arrived) ≤ 6) sent-pairs few)
+
+    module _ (found : FoundAs d arrived) where
+      pub facch-heard : isFacch (length d) ≡ true → blockHeard controlG 0 184 arrived ≡ record { bits = d; good = true; count = bitsAltered d sent rx n }
+      unfolding bitsAltered blockOf
+      facch-heard e =
+          let block : blockBits sent n ≡ controlBlock d = sent-own ∙ ap (λ (b : Bool). pick b (controlBlock d) (speechBlock d)) e in
+          let count : bitsAltered d sent rx n ≡ disagreements arrived (controlBlock d) =
+          ap₂ disagreements (protected-facch d arrived e) (protected-facch d (blockBits sent n) e ∙ block) in
+          control-found d arrived (eqb-true (length d) 184 e) (valid .bits) (found-facch d arrived e found)
+          ∙ ap (λ (k : ℕ). record { bits = d; good = true; count = k }) (sym count)
+
+      pub speech-heard : isFacch (length d) ≡ false → speechHeard arrived ≡ record { bits = take 182 d ++ drop 378 (givenBits arrived); good = true; count = bitsAltered d sent rx n }
+      unfolding bitsAltered blockOf
+      speech-heard e =
+          let block : blockBits sent n ≡ speechBlock d = sent-own ∙ ap (λ (b : Bool). pick b (controlBlock d) (speechBlock d)) e in
+          let count : bitsAltered d sent rx n ≡ disagreements (take 378 arrived) (take 378 (speechBlock d)) =
+          ap₂ disagreements (protected-speech d arrived e) (protected-speech d (blockBits sent n) e ∙ ap (take 378) block) in
+          speech-found d arrived (is-speech d (valid .kind) e) (valid .bits) (found-speech d arrived e found)
+          ∙ ap₂ (λ (w : List ℕ) (k : ℕ). record { bits = take 182 d ++ w; good = true; count = k }) (sym (given-drop 378 arrived)) (sym count)
 
   -- ---- what comes out
-  module _ (rx : List ℕ) (symbols : Symbols rx) (out : List ℕ) (few : 2 * bitsAltered d sent rx n + bitsMissing d rx n ≤ 6) (flags : 2 * flagsAltered sent rx n + flagsMissing rx n ≤ 7) where
+  module _ (rx : List ℕ) (symbols : Symbols rx) (out : List ℕ) (found : FoundAs d (blockBits rx n)) (flags : 2 * flagsAltered sent rx n + flagsMissing rx n ≤ 7) where
     abbrev k : ℕ
     k = bitsAltered d sent rx n
 
@@ -278,22 +349,31 @@ module _ (ds : List (List ℕ)) (lesson : Lesson ds) (lent : ℕ → List ℕ) (
     unfolding answerFor comesOut byKind speechOf facchOf goodOrBad
     comes true e =
         ap (λ (x : Kind). byKind x n (blockBits rx n) out) (vote-as-sent rx symbols flags ∙ ap (λ (b : Bool). pick b kind.Facch kind.Speech) e)
-        ∙ ap (λ (x : Hearing). facchOf n x out) (facch-heard rx few e)
+        ∙ ap (λ (x : Hearing). facchOf n x out) (facch-heard rx found e)
         ∙ sym (ap (λ (b : Bool). pick b (facchBack d n k out) (speechBack d n k c)) e)
     comes false e =
         ap (λ (x : Kind). byKind x n (blockBits rx n) out) (vote-as-sent rx symbols flags ∙ ap (λ (b : Bool). pick b kind.Facch kind.Speech) e)
-        ∙ ap (λ (x : Hearing). speechOf n x out) (speech-heard rx few e)
+        ∙ ap (λ (x : Hearing). speechOf n x out) (speech-heard rx found e)
         ∙ sym (ap (λ (b : Bool). pick b (facchBack d n k out) (speechBack d n k c)) e)
 
--- ---- 02, M-102: what a block bears
-pub stream-bears : StreamBears
-stream-bears ds lesson lent ll rx out here n h few flags =
+-- ---- a block that is found comes back
+pub brought : (ds : List (List ℕ)) → Lesson ds → (lent : ℕ → List ℕ) → ((i : ℕ) → length (lent i) ≡ 464)
+    → (rx : List ℕ) (out : ℕ → List ℕ) → Arrives (4 * length ds + 4) rx out
+    → (n : ℕ) → n < length ds
+    → FoundAs (getD ds n []) (blockBits rx n) → 2 * flagsAltered (made lent ds) rx n + flagsMissing rx n ≤ 7
+    → Brings (takenAt rx out (4 * n + 7)) (kindOf (getD ds n [])) n (bitsAltered (getD ds n []) (made lent ds) rx n)
+    (bitsOut (getD ds n []) (givenBits (blockBits rx n)) (out (4 * n + 7)))
+brought ds lesson lent ll rx out here n h found flags =
     let M : ℕ = 4 * length ds + 4 in
     let d : List ℕ = getD ds n [] in
     let said = brings-block M (omega (arith, lesson .most)) rx out here n (omega (arith, h)) in
-    let is = comes ds lesson lent ll n h rx (here .bits) (out (4 * n + 7)) few flags (isFacch (length d)) refl in
+    let is = comes ds lesson lent ll n h rx (here .bits) (out (4 * n + 7)) found flags (isFacch (length d)) refl in
     comes-back d n (bitsAltered d (made lent ds) rx n) (givenBits (blockBits rx n)) (out (4 * n + 7)) (takenAt rx out (4 * n + 7))
     (subst (λ (a : Answer Taken). Meets a (takenAt rx out (4 * n + 7) .result .told) (takenAt rx out (4 * n + 7) .left)) is said)
+
+-- ---- 02, M-102: what a block bears
+pub stream-bears : StreamBears
+stream-bears ds lesson lent ll rx out here n h few flags = brought ds lesson lent ll rx out here n h (few-found ds lesson lent ll n h rx few) flags
 
 -- ---- demand 3: nothing is missing, and so the others are as received
 none-protected : (d c : List ℕ) → missing c ≡ 0 → missing (protected d c) ≡ 0

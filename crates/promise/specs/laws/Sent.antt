@@ -44,7 +44,7 @@ abbrev beginningFlag : List (List ℕ) → ℕ
 beginningFlag [] = 0
 beginningFlag (d ∷ ds) = flagOf (isFacch (length d))
 
-flag-fits : (b : Bool) → flagOf b ≤ 1
+pub flag-fits : (b : Bool) → flagOf b ≤ 1
 flag-fits true = omega arith
 flag-fits false = omega arith
 

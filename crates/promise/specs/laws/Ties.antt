@@ -23,7 +23,7 @@ use Rattle.stream.specs.Sending.{isFacch}
 use Rattle.kinds.specs.laws.Kinds.{facch-good, speech-good, rule-facch, rule-speech}
 use Rattle.promise.specs.Promise.{Lesson, made, Arrives, takenAt, blockBits, bitsAltered, bitsMissing, flagsAltered, flagsMissing, kindOf, bitsOut, Brings, answerFor}
 use Rattle.promise.specs.Ties.{FacchTies, SpeechTies}
-use Rattle.promise.specs.laws.Promise.{vote-ties, facch-heard, speech-heard, stream-bears}
+use Rattle.promise.specs.laws.Promise.{vote-ties, few-found, facch-heard, speech-heard, stream-bears}
 use Rattle.promise.specs.laws.Taken.{brings-block}
 
 module _ (ds : List (List ℕ)) (lesson : Lesson ds) (lent : ℕ → List ℕ) (ll : (i : ℕ) → length (lent i) ≡ 464)
@@ -86,7 +86,7 @@ facch-ties ds lesson lent ll rx out here n h long few flags =
     ⊎-elim (λ (l : harm < 8). fewer ds lesson lent ll rx out here n h few is (omega (arith, l)))
     (λ (l : 8 ≤ harm).
     as-facch ds lesson lent ll rx out here n h few (omega (arith, l, flags)) (record { bits = d; good = true; count = bitsAltered d (made lent ds) rx n })
-    (facch-heard ds lesson lent ll n h rx few is) refl)
+    (facch-heard ds lesson lent ll n h rx (few-found ds lesson lent ll n h rx few) is) refl)
     (lt-or-le harm 8)
 
 pub speech-ties : SpeechTies
@@ -98,4 +98,4 @@ speech-ties ds lesson lent ll rx out here n h long few four =
     (λ count bits. Brings (takenAt rx out (4 * n + 7)) kind.Facch n count (bits ++ drop 184 (out (4 * n + 7))))
     (λ count. Brings (takenAt rx out (4 * n + 7)) kind.Speech n (bitsAltered d (made lent ds) rx n) (take 182 d ++ drop 378 (givenBits c)))
     (λ good. as-facch ds lesson lent ll rx out here n h few four (blockHeard controlG 0 184 c) refl good)
-    (λ bad. as-speech ds lesson lent ll rx out here n h few four bad (record { bits = take 182 d ++ drop 378 (givenBits c); good = true; count = bitsAltered d (made lent ds) rx n }) (speech-heard ds lesson lent ll n h rx few is) refl)
+    (λ bad. as-speech ds lesson lent ll rx out here n h few four bad (record { bits = take 182 d ++ drop 378 (givenBits c); good = true; count = bitsAltered d (made lent ds) rx n }) (speech-heard ds lesson lent ll n h rx (few-found ds lesson lent ll n h rx few) is) refl)

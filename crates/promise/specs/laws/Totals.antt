@@ -3,7 +3,7 @@
 use mathlib.Core.Bool.{Bool, true, false}
 use mathlib.Core.List.{List, [], _∷_, _++_}
 use mathlib.Core.Path.{_≡_, refl, sym, ap, ap₂, _∙_, subst}
-use Prim.Native.Nat.{ℕ, _+_, _-_, _*_, _/_, _%_, _≤_}
+use Prim.Native.Nat.{ℕ, zero, suc, _+_, _-_, _*_, _/_, _%_, _≤_}
 use native.Mathlib.Omega.{arith}
 use lib.Dec.{eqb, leb, lit≤}
 use lib.ListN.{drop}
@@ -39,6 +39,7 @@ use Rattle.stream.specs.Says.{Takeable}
 use Rattle.stream.specs.declared.receiver.Received.{Received}
 use Rattle.stream.specs.declared.receiver.Receiver.{Receiver}
 use Rattle.stream.specs.laws.Receiving.{take-able}
+use Rattle.promise.specs.Promise.{burstOf, after, takenAt}
 use Rattle.promise.specs.Totals.{handedBack, answered, TotalsPromise}
 
 -- ---- what one answer adds: at most so many blocks, and the count of a good one, which is at most 456
@@ -173,6 +174,21 @@ module _ (s : Receiver) (b : ℕ) (e d : List ℕ) (far : Far (s .next .0) (s .t
       by-told told.Done h = done (take-able s b e d (takeTold s b e d) refl h)
       by-told (told.Refused r) h = refused r
 
+-- ---- bursts in order from a fresh receiver: each adds what it is answered
+fresh-far : Far (freshReceiver .next .0) (freshReceiver .totals)
+unfolding freshReceiver
+fresh-far = record { within = lit≤ tt; blocks = lit≤ tt; counts = lit≤ tt }
+
+module _ (rx : List ℕ) (out : ℕ → List ℕ) where
+  after-far : (b : ℕ) → Far (after rx out b .next .0) (after rx out b .totals)
+  unfolding after
+  after-far zero = fresh-far
+  after-far (suc b) = step (after rx out b) b (burstOf rx b) (out b) (after-far b) .far
+
+  pub take-adds : (b : ℕ) → takenAt rx out b .result .next .totals ≡ together (after rx out b .totals) (said (ofTaken (takenAt rx out b .result .told)))
+  unfolding takenAt
+  take-adds b = step (after rx out b) b (burstOf rx b) (out b) (after-far b) .adds-up
+
 -- ---- any calls, one after another
 record Sums (s : Receiver) (given : List (Answer Received)) : Type 0 where
   adds-up : handedBack s given .totals ≡ together (s .totals) (totalsOf (answered given))
@@ -195,7 +211,7 @@ sums s far (c ∷ calls) (a ∷ given) h =
 pub totals-promise : TotalsPromise
 unfolding freshReceiver
 totals-promise calls given h =
-    let all = sums freshReceiver (record { within = lit≤ tt; blocks = lit≤ tt; counts = lit≤ tt }) calls given h in
+    let all = sums freshReceiver fresh-far calls given h in
     let is : handedBack freshReceiver given .totals ≡ totalsOf (answered given) = all .adds-up ∙ none-before (totalsOf (answered given)) in
     let far = subst (Far (handedBack freshReceiver given .next .0)) is (all .far) in
     (is, record { blocks = omega (arith, far .blocks, far .within); counts = far .counts })

@@ -17,7 +17,7 @@ use Rattle.register.specs.Register.{NotAfter, next, state, pathCost}
 use Rattle.register.specs.laws.Distance.{AllZero, held}
 use Rattle.register.specs.laws.Steps.{itself}
 use Rattle.convolution.specs.Pairs.{codedAt, coded, pairOf}
-use Rattle.trellis.specs.Nearest.{disagreements, pairCost, Candidate, Nearest, nearest, nearestCount, longest}
+use Rattle.trellis.specs.Nearest.{disagreements, pairCost, Candidate, Nearest, Found, nearest, nearestCount, longest}
 use Rattle.trellis.specs.laws.Candidates.{candidate-state, candidate-long}
 use Rattle.convolution.specs.laws.Linear.{codedAt-sum}
 use Rattle.trellis.specs.laws.Nearest.{nearest-is, nearest-once}
@@ -158,5 +158,5 @@ module _ (n : ℕ) (r u : List ℕ) (cu : Candidate n u) (lr : length r ≡ 2 * 
             (distance n u v cu cv);
       }
 
-  pub corrected : n ≤ longest → 2 * disagreements r (coded u) + missing r ≤ 6 → (nearest r n ≡ u) × (nearestCount r n ≡ disagreements r (coded u))
+  pub corrected : n ≤ longest → 2 * disagreements r (coded u) + missing r ≤ 6 → Found r n u
   corrected short few = nearest-once r n (nearest r n) u (nearestCount r n) (disagreements r (coded u)) (nearest-is r n (candidate-long n u cu) short) (corrects few)

@@ -5,10 +5,10 @@ use mathlib.Core.Path.{_≡_, refl, sym, ap, _∙_, subst}
 use Prim.Native.Nat.{ℕ, zero, suc, _-_, _*_, _≤_, _<_}
 use native.Mathlib.Omega.{arith}
 use lib.ListN.{length, getD, drop, length-reverse}
-use Rattle.bits.specs.Bits.{zeros, total, isMissing, differ}
+use Rattle.bits.specs.Bits.{zeros, isMissing, differ}
 use Rattle.bits.specs.laws.Missing.{missing-agrees}
 use Rattle.bits.specs.laws.Sum.{length-zeros, bits-zeros}
-use Rattle.bits.specs.laws.Total.{total-same}
+use Rattle.bits.specs.laws.Total.{total-zero}
 use Rattle.register.specs.Register.{NotAfter}
 use Rattle.register.specs.laws.Steps.{zeros-first}
 use Rattle.convolution.specs.Pairs.{codedAt, coded}
@@ -33,17 +33,11 @@ zeros-candidate : (n : ℕ) → 4 ≤ n → Candidate n (zeros n)
 zeros-candidate n h = record { bits = bits-zeros n; long = length-zeros n; ends = end-zeros n h }
 
 -- ---- every pair of the block is missing
-nothing : (k : ℕ) → total k (λ i. 0) ≡ 0
-unfolding total
-nothing zero = refl
-nothing (suc k) = omega (arith, nothing k)
-
 module _ (r : List ℕ) (n : ℕ) (long : 4 ≤ n) (lost : (i : ℕ) → i < 2 * n → isMissing (getD r i 0) ≡ true) where
   none : (u : List ℕ) → length u ≡ n → disagreements r (coded u) ≡ 0
   none u l =
       by-index r u
-      ∙ total-same (2 * length u) (λ i. differ (codedAt u i) (getD r i 0)) (λ i. 0) (λ i h. missing-agrees (codedAt u i) (getD r i 0) (lost i (omega (arith, h, l))))
-      ∙ nothing (2 * length u)
+      ∙ total-zero (2 * length u) (λ i. differ (codedAt u i) (getD r i 0)) (λ i h. missing-agrees (codedAt u i) (getD r i 0) (lost i (omega (arith, h, l))))
 
   zeros-nearest : Nearest r n (zeros n) 0
   zeros-nearest =

@@ -38,7 +38,7 @@ module _ (r : List ℕ) where
   block-state : (u : List ℕ) → Bits u → state 8 (reverse u) ≡ stateAt u (length u)
   block-state u bu = path-state (reverse u) (bits-reverse u bu) ∙ ap₂ stateAt (reverse-reverse u) (length-reverse u)
 
-  block-cost : (u : List ℕ) → Bits u → pathCost 8 (pairCost r) (reverse u) ≡ disagreements r (coded u)
+  pub block-cost : (u : List ℕ) → Bits u → pathCost 8 (pairCost r) (reverse u) ≡ disagreements r (coded u)
   block-cost u bu = path-cost r (reverse u) (bits-reverse u bu) ∙ ap (λ (v : List ℕ). disagreements r (coded v)) (reverse-reverse u)
 
   -- ---- the trellis view
