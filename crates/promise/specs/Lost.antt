@@ -4,7 +4,7 @@ use mathlib.Core.Bool.{Bool, true, false}
 use mathlib.Core.List.{List, []}
 use mathlib.Core.Logic.{_⊎_}
 use mathlib.Core.Path.{_≡_}
-use Prim.Native.Nat.{ℕ, _+_, _*_, _/_, _%_, _≤_, _<_}
+use Prim.Native.Nat.{ℕ, _+_, _*_, _%_, _≤_, _<_}
 use lib.Dec.{eqb}
 use lib.ListN.{length, getD}
 use Rattle.bits.specs.Bits.{isMissing, givenBits, pick, tab}
@@ -17,9 +17,7 @@ use Rattle.coder.specs.Received.{sacchReceived}
 use Rattle.chart.specs.Says.{ofGood, together}
 use Rattle.chart.specs.Totals.{four}
 use Rattle.chart.specs.declared.Kind.{Kind}
-use Rattle.chart.specs.declared.totals.Totals.{Totals}
-use Rattle.stream.specs.Sending.{isFacch}
-use Rattle.promise.specs.Promise.{Lesson, made, Arrives, after, takenAt, blockBits, blockFlags, protected, bitsAltered, flagsAltered, flagsMissing, kindOf, bitsOut, Brings}
+use Rattle.promise.specs.Promise.{Lesson, made, Arrives, after, takenAt, blockBits, blockFlags, protected, pairsOf, bitsAltered, flagsAltered, flagsMissing, kindOf, bitsOut, Brings}
 
 -- ---- bursts that never came: a set of them is given by its test
 -- burst b of the bytes e is missing whole
@@ -78,9 +76,6 @@ EveryBlock =
 
 -- The stronger fact behind it, by places: none of block n's own protected bits is altered, and of each of its pairs at least one is there, whichever are lost; of its own flags f
 -- are altered and g are missing, 2f + g at most 7.
-unfoldable pub pairsOf : List ℕ → ℕ
-pairsOf d = pick (isFacch (length d)) 228 189
-
 abbrev pub StreamPairs : Type 0
 StreamPairs =
     (ds : List (List ℕ)) → Lesson ds → (lent : ℕ → List ℕ) → ((i : ℕ) → length (lent i) ≡ 464)
@@ -90,17 +85,12 @@ StreamPairs =
     → bitsAltered (getD ds n []) (made lent ds) rx n ≡ 0 → 2 * flagsAltered (made lent ds) rx n + flagsMissing rx n ≤ 7
     → Brings (takenAt rx out (4 * n + 7)) (kindOf (getD ds n [])) n 0 (bitsOut (getD ds n []) (givenBits (blockBits rx n)) (out (4 * n + 7)))
 
--- ---- TOTALS (02, M-100): such a block is counted as good. Burst 4n+7 adds one good block of the kind sent, none refused, and nothing to the summed counts.
-abbrev pub oneGood : Kind → Totals
-oneGood k = four (ofGood 1 0 k) (ofGood 0 1 k) 0 0
-
-abbrev pub LostIsGood : Type 0
-LostIsGood =
-    (ds : List (List ℕ)) → Lesson ds → (lent : ℕ → List ℕ) → ((i : ℕ) → length (lent i) ≡ 464)
-    → (rx : List ℕ) (out : ℕ → List ℕ) → Arrives (4 * length ds + 4) rx out
-    → (n : ℕ) → n < length ds
-    → (lost : ℕ → Bool) → OneClass 8 lost → Loses lost (made lent ds) rx n
-    → takenAt rx out (4 * n + 7) .result .next .totals ≡ together (after rx out (4 * n + 7) .totals) (oneGood (kindOf (getD ds n [])))
+-- ---- TOTALS (02, M-100): whatever arrives, a block that a burst brings is counted as good: one more of its kind, none refused, its count added. That of a block
+-- which lost bursts of one class is 0.
+abbrev pub BroughtIsGood : Type 0
+BroughtIsGood =
+    (rx : List ℕ) (out : ℕ → List ℕ) (b : ℕ) (k : Kind) (n count : ℕ) (bytes : List ℕ) → Brings (takenAt rx out b) k n count bytes
+    → takenAt rx out b .result .next .totals ≡ together (after rx out b .totals) (four (ofGood 1 0 k) (ofGood 0 1 k) 0 (ofGood count count k))
 
 -- ---- SACCH: the same with its four bursts. A message is sent and its bytes arrive; its flags may be altered or missing anyhow.
 pub record SacchLoses (lost : ℕ → Bool) (sent e : List ℕ) : Type 0 where

@@ -74,6 +74,10 @@ blockFlags rx n = tab 8 (λ i. getD rx (116 * (firstBurst n + i) + pick (ltb i 4
 unfoldable pub protected : List ℕ → List ℕ → List ℕ
 protected d c = pick (isFacch (length d)) c (take 378 c)
 
+-- and how many pairs they are
+unfoldable pub pairsOf : List ℕ → ℕ
+pairsOf d = pick (isFacch (length d)) 228 189
+
 -- how many of block n's own protected bits, and of its own flags, are altered, and how many are missing; a missing one is not altered
 unfoldable pub bitsAltered : List ℕ → List ℕ → List ℕ → ℕ → ℕ
 bitsAltered d sent rx n = disagreements (protected d (blockBits rx n)) (protected d (blockBits sent n))

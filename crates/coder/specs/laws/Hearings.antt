@@ -1,5 +1,4 @@
--- What is heard of a block of each channel that the search finds in what arrived: the block, good, and the count. It is found where t of its protected bits
--- were altered and m are missing, 2t + m at most 6.
+-- What is heard of a block that the search finds in what arrived: the block, good, and the count.
 use mathlib.Core.Bool.{Bool, true}
 use mathlib.Core.List.{List, _++_}
 use mathlib.Core.Path.{_≡_, refl, sym, ap, ap₂, _∙_, subst, subst₂}
@@ -87,17 +86,10 @@ speech-found d c ld bd found =
     hearing-is (speechHeard c) (take 182 d ++ givenBits (drop 378 c)) (disagreements (take 378 c) (take 378 (speechBlock d)))
     (speech-bits d ld bd c found) (speech-good d ld bd c found) (speech-count d ld bd c found ∙ ap (disagreements (take 378 c)) (sym (speech-pairs d ld bd)))
 
--- ---- 02, M-102: where t of the protected bits were altered and m are missing, 2t + m at most 6, the block is found
-pub control-few : (d c : List ℕ) → length d ≡ 184 → Bits d → length c ≡ 456 → 2 * disagreements c (controlBlock d) + missing c ≤ 6 → Found c 228 (controlU d)
-unfolding controlBlock
-control-few d c ld bd lc few = corrected 228 c (controlU d) (control-candidate d ld bd) lc (lit≤ tt) few
-
-pub speech-few : (d c : List ℕ) → length d ≡ 260 → Bits d → length c ≡ 456 → 2 * disagreements (take 378 c) (take 378 (speechBlock d)) + missing (take 378 c) ≤ 6
-    → Found (take 378 c) 189 (speechU d)
-speech-few d c ld bd lc few =
-    corrected 189 (take 378 c) (speechU d) (speech-candidate d ld bd) (length-take-le 378 c (omega (arith, lc))) (lit≤ tt)
-    (subst (λ (x : List ℕ). 2 * disagreements (take 378 c) x + missing (take 378 c) ≤ 6) (speech-pairs d ld bd) few)
-
+-- 02, M-102: speech of whose protected bits t were altered and m are missing, 2t + m at most 6, is found
 pub speech-hearing : (d c : List ℕ) → length d ≡ 260 → Bits d → length c ≡ 456 → 2 * disagreements (take 378 c) (take 378 (speechBlock d)) + missing (take 378 c) ≤ 6
     → speechHeard c ≡ record { bits = take 182 d ++ givenBits (drop 378 c); good = true; count = disagreements (take 378 c) (take 378 (speechBlock d)) }
-speech-hearing d c ld bd lc few = speech-found d c ld bd (speech-few d c ld bd lc few)
+speech-hearing d c ld bd lc few =
+    speech-found d c ld bd
+    (corrected 189 (take 378 c) (speechU d) (speech-candidate d ld bd) (length-take-le 378 c (omega (arith, lc))) (lit≤ tt)
+    (subst (λ (x : List ℕ). 2 * disagreements (take 378 c) x + missing (take 378 c) ≤ 6) (speech-pairs d ld bd) few))

@@ -1,7 +1,6 @@
 -- The promises are kept: an entry that is given what it should be sends its block, and it comes back where t bits are altered and m missing, 2t + m at
 -- most 6. Demand 3 follows: with none missing, t is at most three.
 use mathlib.Core.List.{List, _++_}
-use Rattle.answers.specs.declared.Maybe.the-variants.{None}
 use mathlib.Core.Path.{_≡_, refl, sym, ap, _∙_, subst}
 use Prim.Native.Nat.{ℕ, _+_, _*_, _≤_, _<_, _^_}
 use native.Mathlib.Omega.{arith}
@@ -15,7 +14,7 @@ use Rattle.places.specs.Places.{gatheredAt, gathered}
 use Rattle.parity.specs.Division.{controlG, accessG, schG}
 use Rattle.trellis.specs.Nearest.{Found, disagreements, longest}
 use Rattle.convolution.specs.Pairs.{coded}
-use Rattle.answers.specs.Answers.{Answer, returned, ofTold, ofHeard}
+use Rattle.answers.specs.Answers.{Answer, ofTold, ofHeard}
 use Rattle.answers.specs.declared.Heard.{Heard}
 use Rattle.answers.specs.declared.Heard.the-variants.{Good, Bad}
 use Rattle.answers.specs.declared.Told.{Told}

@@ -8,7 +8,7 @@ use native.Mathlib.Omega.{arith}
 use lib.Dec.{ltb, lit≤}
 use lib.ListN.{length, getD, drop}
 use borrow.Author.Tests.{eqb-true}
-use Rattle.bits.specs.Bits.{Bits, isMissing, lost, missing, givenAs, givenBits, differ, pick, tab, total, digits}
+use Rattle.bits.specs.Bits.{Bits, isMissing, lost, givenAs, givenBits, differ, pick, tab, total, digits}
 use Rattle.bits.specs.laws.Cases.{lt-or-le, not-true}
 use Rattle.bits.specs.laws.Missing.{missing-agrees, missing-zero, present-bit, given-present, differ-itself}
 use Rattle.bits.specs.laws.Sum.{bits-append, bits-drop}
@@ -21,7 +21,7 @@ use Rattle.places.specs.laws.Places.{every-bit}
 use Rattle.parity.specs.Division.{controlG}
 use Rattle.parity.specs.laws.Generators.{control-long}
 use Rattle.convolution.specs.Pairs.{coded}
-use Rattle.convolution.specs.laws.Pairs.{length-coded, bits-coded}
+use Rattle.convolution.specs.laws.Pairs.{bits-coded}
 use Rattle.trellis.specs.Lost.{OneOfEach, MissingIn, without}
 use Rattle.trellis.specs.Nearest.{disagreements, Candidate, Found}
 use Rattle.trellis.specs.laws.Lost.{told, is-without, without-take, rest-present, none-disagrees}
@@ -31,17 +31,12 @@ use Rattle.coder.specs.Promises.{Back}
 use Rattle.coder.specs.Received.{sacchReceived}
 use Rattle.coder.specs.laws.Promises.{kept, sent-coded, message-codes}
 use Rattle.coder.specs.laws.Restored.{coloured, coloured-candidate}
-use Rattle.answers.specs.declared.Maybe.the-variants.{None, Some}
-use Rattle.chart.specs.Answers.{values}
 use Rattle.chart.specs.Says.{said, together}
-use Rattle.chart.specs.declared.Kind.{Kind}
-use Rattle.chart.specs.declared.Kind.the-variants as kind
 use Rattle.chart.specs.declared.Values.{Values}
-use Rattle.chart.specs.declared.totals.Totals.{Totals}
 use Rattle.stream.specs.Sending.{isFacch, blockOf, flagOf}
-use Rattle.promise.specs.Lost.{NeverCame, OneClass, Loses, lostAsZero, LostByClass, alone, OneLostBurst, LessonLoses, EveryBlock, pairsOf, StreamPairs, oneGood, LostIsGood, SacchLoses, SacchByClass}
-use Rattle.promise.specs.Promise.{Valid, Lesson, made, Arrives, takenAt, after, blockBits, blockFlags, protected, bitsAltered, flagsAltered, flagsMissing, kindOf, bitsOut, Brings}
-use Rattle.promise.specs.laws.Promise.{uOf, pairs-short, candidate-of, protected-coded, protected-facch, protected-speech, is-speech, valid, sent-own, sent-flags, flags-lost, sent-pairs, brought}
+use Rattle.promise.specs.Lost.{OneClass, Loses, lostAsZero, LostByClass, alone, OneLostBurst, LessonLoses, EveryBlock, StreamPairs, BroughtIsGood, SacchLoses, SacchByClass}
+use Rattle.promise.specs.Promise.{Valid, Lesson, made, takenAt, after, blockBits, blockFlags, protected, pairsOf, bitsAltered, flagsAltered, flagsMissing, kindOf, bitsOut, Brings}
+use Rattle.promise.specs.laws.Promise.{uOf, pairs-short, candidate-of, protected-facch, protected-speech, valid, sent-own, sent-flags, flags-lost, sent-pairs, brought}
 use Rattle.promise.specs.laws.Sent.{flag-fits}
 use Rattle.promise.specs.laws.Taken.{flag-in}
 use Rattle.promise.specs.laws.Totals.{take-adds}
@@ -254,19 +249,10 @@ pub every-block : EveryBlock
 every-block ds lesson lent ll rx out here away one loses n h =
     lost-by-class ds lesson lent ll rx out here n h (λ i. away (firstBurst n + i)) (own-class ds lent rx away n h one) (own-losses ds lent rx away n h loses)
 
--- ---- the totals
-good-said : (k : Kind) (n : ℕ) → said (values None k (Some n) (Some 0)) ≡ oneGood k
+-- ---- the totals: what is said of a block that is brought is what a good one adds
+pub brought-is-good : BroughtIsGood
 unfolding said
-good-said kind.Speech n = refl
-good-said kind.Facch n = refl
-good-said kind.Neither n = refl
-
-pub lost-is-good : LostIsGood
-lost-is-good ds lesson lent ll rx out here n h away one loses =
-    let before : Totals = after rx out (4 * n + 7) .totals in
-    take-adds rx out (4 * n + 7)
-    ∙ ap (λ (v : Values). together before (said v)) (lost-by-class ds lesson lent ll rx out here n h away one loses .told)
-    ∙ ap (together before) (good-said (kindOf (getD ds n [])) n)
+brought-is-good rx out b k n count bytes back = take-adds rx out b ∙ ap (λ (v : Values). together (after rx out b .totals) (said v)) (back .told)
 
 -- ---- SACCH: bit k stands in burst k mod 4
 module _ (d c e out : List ℕ) (gd : Given 1 184 464 d c) (ge : Given 2 464 184 e out) (away : ℕ → Bool) (one : OneClass 4 away) (loses : SacchLoses away (sacchSent d c .left) e) where
@@ -318,4 +304,4 @@ module _ (d c e out : List ℕ) (gd : Given 1 184 464 d c) (ge : Given 2 464 184
       (kept controlG 0 184 464 sacchMessage gathered message-codes (lit≤ tt) d c e out gd ge message-found)
 
 pub sacch-by-class : SacchByClass
-sacch-by-class d c e out gd ge away one loses = message-back d c e out gd ge away one loses
+sacch-by-class = message-back

@@ -2,7 +2,7 @@
 use mathlib.Core.Bool.{Bool, true, false, not}
 use mathlib.Core.List.{List, [], _++_}
 use mathlib.Core.Logic.{⊎-elim}
-use mathlib.Core.Path.{_≡_, refl, sym, ap, ap₂, _∙_, subst, subst₂}
+use mathlib.Core.Path.{_≡_, refl, sym, ap, ap₂, _∙_, subst}
 use Prim.Native.Nat.{ℕ, zero, suc, _+_, _*_, _/_, _%_, _≤_, _<_}
 use native.Mathlib.Omega.{arith}
 use lib.Dec.{ltb, eqb, lit≤}
@@ -40,8 +40,7 @@ use Rattle.chart.specs.declared.Taken.the-variants.{Speech, Facch}
 use Rattle.chart.specs.declared.Kind.{Kind}
 use Rattle.chart.specs.declared.Kind.the-variants as kind
 use Rattle.stream.specs.declared.receiver.Received.{Received}
-use Rattle.promise.specs.Promise.{Valid, Lesson, made, Arrives, blockBits, blockFlags, protected, bitsAltered, bitsMissing, flagsAltered, flagsMissing, kindOf, bitsOut, takenAt, Brings, Answers, flagsThat, answerFor, flagsSaying, StreamBears, StreamPromise, BurstsMade, IdleHalves, Locality, StreamNearest, NeverAThird}
-use Rattle.promise.specs.Lost.{pairsOf}
+use Rattle.promise.specs.Promise.{Valid, Lesson, made, Arrives, blockBits, blockFlags, protected, pairsOf, bitsAltered, bitsMissing, flagsAltered, flagsMissing, kindOf, bitsOut, takenAt, Brings, Answers, flagsThat, answerFor, flagsSaying, StreamBears, StreamPromise, BurstsMade, IdleHalves, Locality, StreamNearest, NeverAThird}
 use Rattle.promise.specs.laws.Sent.{fresh-able, sent-bit, sent-flag, all-done, first-idle, last-idle}
 use Rattle.promise.specs.laws.Taken.{flag-in, brings-block, brings-nothing}
 
@@ -169,7 +168,7 @@ module _ (d : List ℕ) (n k : ℕ) (c out : List ℕ) (a : Answer Received) whe
   comes-back m = by-kind (isFacch (length d)) m
 
 -- ---- what was sent stands at block n's places
-pub is-speech : (d : List ℕ) → isBlock (length d) ≡ true → isFacch (length d) ≡ false → length d ≡ 260
+is-speech : (d : List ℕ) → isBlock (length d) ≡ true → isFacch (length d) ≡ false → length d ≡ 260
 is-speech d block e = by-test (eqb (length d) 260) refl
   where
     by-test : (b : Bool) → eqb (length d) 260 ≡ b → length d ≡ 260
@@ -194,7 +193,7 @@ unfolding protected
 protected-speech d c e = rw e refl
 
 -- the length of what is protected
-pub protected-long : (d c : List ℕ) → length c ≡ 456 → length (protected d c) ≡ 2 * pairsOf d
+protected-long : (d c : List ℕ) → length c ≡ 456 → length (protected d c) ≡ 2 * pairsOf d
 unfolding pairsOf
 protected-long d c l = by-kind (isFacch (length d)) refl
   where
@@ -222,7 +221,7 @@ candidate-of d v = by-kind (isFacch (length d)) refl
     by-kind true e = control-candidate d (eqb-true (length d) 184 e) (v .bits)
     by-kind false e = speech-candidate d (is-speech d (v .kind) e) (v .bits)
 
-pub protected-coded : (d : List ℕ) → Valid d → protected d (blockOf d) ≡ coded (uOf d)
+protected-coded : (d : List ℕ) → Valid d → protected d (blockOf d) ≡ coded (uOf d)
 unfolding blockOf uOf controlBlock
 protected-coded d v = by-kind (isFacch (length d)) refl
   where
@@ -266,7 +265,7 @@ module _ (ds : List (List ℕ)) (lesson : Lesson ds) (lent : ℕ → List ℕ) (
       at-tab 8 (λ i. getD sent (116 * (4 * n + i) + pick (ltb i 4) hu hl) 0) i l
       ∙ sent-flag freshSender lent ll ds (fresh-able (length ds) (lesson .some) (lesson .most)) (lesson .each) n i h l
 
-  pub flags-differ : (rx : List ℕ) → flagsAltered sent rx n ≡ total 8 (λ i. differ (flagOf (isFacch (length d))) (getD (blockFlags rx n) i 0))
+  flags-differ : (rx : List ℕ) → flagsAltered sent rx n ≡ total 8 (λ i. differ (flagOf (isFacch (length d))) (getD (blockFlags rx n) i 0))
   unfolding flagsAltered disagreements blockFlags
   flags-differ rx =
       ap (λ (m : ℕ). total m (λ i. differ (getD (blockFlags sent n) i 0) (getD (blockFlags rx n) i 0))) (length-tab 8 (λ i. getD sent (116 * (firstBurst n + i) + pick (ltb i 4) hu hl) 0))
@@ -308,7 +307,7 @@ module _ (ds : List (List ℕ)) (lesson : Lesson ds) (lent : ℕ → List ℕ) (
     pub sent-pairs : protected d (blockBits sent n) ≡ coded (uOf d)
     sent-pairs = ap (protected d) sent-own ∙ protected-coded d valid
 
-    pub arrived-pairs : length (protected d arrived) ≡ 2 * pairsOf d
+    arrived-pairs : length (protected d arrived) ≡ 2 * pairsOf d
     arrived-pairs = protected-long d arrived arrived-long
 
     -- 02, M-102: few altered and missing bits
