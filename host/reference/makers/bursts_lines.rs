@@ -66,6 +66,7 @@ mod tests {
     use crate::makers::sorts::{call, is_done};
     use crate::makers::taken_blocks::{self, Block};
     use crate::model::burst::BURST;
+    use crate::model::coding::convolve;
     use crate::model::kind::Kind;
     use crate::model::missing::MISSING;
 
@@ -161,6 +162,45 @@ mod tests {
             }
         }
         assert!(back > 20 && harmed > 20, "{} {}", back, harmed);
+    }
+
+    /// How many of the lists are independent, each a sum of none of the others.
+    fn rank(lists: Vec<Vec<u8>>) -> usize {
+        let mut kept: Vec<(usize, Vec<u8>)> = Vec::new();
+        for mut list in lists {
+            for (place, other) in &kept {
+                if list[*place] == 1 {
+                    list = list.iter().zip(other).map(|(a, b)| a ^ b).collect();
+                }
+            }
+            if let Some(place) = list.iter().position(|&bit| bit == 1) {
+                kept.push((place, list));
+            }
+        }
+        kept.len()
+    }
+
+    /// The pairs of each single bit of a candidate, without the bursts of a set.
+    fn left_of_each_bit(pairs: usize, lost: usize) -> Vec<Vec<u8>> {
+        let left = |bit: usize| -> Vec<u8> {
+            let mut u = vec![0; pairs];
+            u[bit] = 1;
+            let c = convolve(&u);
+            let is_left = |k: &usize| lost >> (k % 8) & 1 == 0;
+            (0..c.len()).filter(is_left).map(|k| c[k]).collect()
+        };
+        (0..pairs - 4).map(left).collect()
+    }
+
+    #[test]
+    fn at_most_four_lost_bursts_leave_one_candidate_and_five_do_not() {
+        // Speech and FACCH; a candidate's last four bits are 0, and the pairs of a sum are the sum.
+        for pairs in [189, 228] {
+            for lost in 0_usize..256 {
+                let is_one = rank(left_of_each_bit(pairs, lost)) == pairs - 4;
+                assert_eq!(is_one, lost.count_ones() <= 4, "{} {:b}", pairs, lost);
+            }
+        }
     }
 
     #[test]

@@ -1,7 +1,7 @@
 -- Bursts of one class hold at most one place of each pair, and at most four of a block's flags. So the law of the pairs finds the block, and the vote knows it.
 use mathlib.Core.Bool.{Bool, true, false}
 use mathlib.Core.List.{List, []}
-use mathlib.Core.Logic.{⊎-elim, inl, inr}
+use mathlib.Core.Logic.{_⊎_, ⊎-elim, inl, inr}
 use mathlib.Core.Path.{_≡_, refl, sym, ap, ap₂, _∙_, subst}
 use Prim.Native.Nat.{ℕ, _+_, _*_, _%_, _≤_, _<_}
 use native.Mathlib.Omega.{arith}
@@ -57,28 +57,19 @@ module _ (away : ℕ → Bool) where
   counted : ℕ → ℕ
   counted i = pick (away i) 1 0
 
-  at-most-one : (i : ℕ) → counted i ≤ 1
+  one-of-two : (i j : ℕ) → (away i ≡ false) ⊎ (away j ≡ false) → counted i + counted j ≤ 1
   unfolding counted
-  at-most-one i = by-test (away i)
+  one-of-two i j = ⊎-elim (λ (e : away i ≡ false). rw e (omega (arith, at-most-one (away j)))) (λ (e : away j ≡ false). rw e (omega (arith, at-most-one (away i))))
     where
-      by-test : (b : Bool) → pick b 1 0 ≤ 1
-      by-test true = omega arith
-      by-test false = omega arith
-
-  not-counted : (i : ℕ) → (away i ≡ true → ⊥) → counted i ≡ 0
-  unfolding counted
-  not-counted i never = ap (λ (b : Bool). pick b 1 0) (not-true (away i) never)
+      at-most-one : (b : Bool) → pick b 1 0 ≤ 1
+      at-most-one true = omega arith
+      at-most-one false = omega arith
 
   four-at-most : OneClass 8 away → total 8 counted ≤ 4
   unfolding total
   four-at-most one =
-      ⊎-elim (λ (even : (i : ℕ) → i < 8 → away i ≡ true → i % 2 ≡ 0).
-      let none : (i : ℕ) → i < 8 → i % 2 ≡ 1 → counted i ≡ 0 = λ i l e. not-counted i (λ t. let z : ⊥ = omega (arith, even i l t, e) in z) in
-      omega (arith, none 1 (omega arith) refl, none 3 (omega arith) refl, none 5 (omega arith) refl, none 7 (omega arith) refl, at-most-one 0, at-most-one 2, at-most-one 4, at-most-one 6))
-      (λ (odd : (i : ℕ) → i < 8 → away i ≡ true → i % 2 ≡ 1).
-      let none : (i : ℕ) → i < 8 → i % 2 ≡ 0 → counted i ≡ 0 = λ i l e. not-counted i (λ t. let z : ⊥ = omega (arith, odd i l t, e) in z) in
-      omega (arith, none 0 (omega arith) refl, none 2 (omega arith) refl, none 4 (omega arith) refl, none 6 (omega arith) refl, at-most-one 1, at-most-one 3, at-most-one 5, at-most-one 7))
-      one
+      let left = class-leaves 8 (λ k. omega arith) (λ k. omega arith) away one 4 in
+      omega (arith, one-of-two 0 1 (left 0 (omega arith)), one-of-two 2 3 (left 1 (omega arith)), one-of-two 4 5 (left 2 (omega arith)), one-of-two 6 7 (left 3 (omega arith)))
 
 -- ---- the stronger fact, by places
 pub stream-pairs : StreamPairs
