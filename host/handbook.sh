@@ -255,15 +255,15 @@ classes_as_proved() {
 # A SACCH message comes back from each set of its four bursts that are all at even places or all at odd, also without its flags; from one burst alone this one does not.
 messages_as_proved() {
     message=$(mixed 184)
-    sent=$(printf 'sacch %s\n' "$message" | run_proved kit)
+    bursts=$(printf 'sacch %s\n' "$message" | run_proved kit)
     for lost in 1 4 5 2 8 10; do
-        printf '%s\n' "$sent" | awk -v lost="$lost" -v never="$(twos 116)" '{
+        printf '%s\n' "$bursts" | awk -v lost="$lost" -v never="$(twos 116)" '{
             for (b = 0; b < 4; b++) {
                 e = substr($0, 116 * b + 1, 116)
-                answer = answer (int(lost / 2 ^ b) % 2 ? never : substr(e, 1, 57) "22" substr(e, 60))
+                arrived = arrived (int(lost / 2 ^ b) % 2 ? never : substr(e, 1, 57) "22" substr(e, 60))
             }
-            print "sacch? " answer
+            print "sacch? " arrived
         }' | ends_in "0 $message" || return 1
     done
-    printf 'sacch? %s%s\n' "$(twos 348)" "$(printf '%s' "$sent" | cut -c 349-)" | ends_in 'refused 8 0'
+    printf 'sacch? %s%s\n' "$(twos 348)" "$(printf '%s' "$bursts" | cut -c 349-)" | ends_in 'refused 8 0'
 }
