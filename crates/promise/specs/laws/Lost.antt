@@ -44,10 +44,10 @@ use Rattle.promise.specs.laws.Totals.{take-adds}
 -- ---- bursts of one class hold at most one place of each pair: bit k stands in burst k mod m, and m is even
 class-leaves : (m : ℕ) → ((k : ℕ) → k % m < m) → ((k : ℕ) → k % m % 2 ≡ k % 2) → (away : ℕ → Bool) → OneClass m away → (n : ℕ) → OneOfEach n (λ k. away (k % m))
 class-leaves m within parity away one n k h =
-    ⊎-elim (λ (even : (i : ℕ) → i < m → away i ≡ true → i % 2 ≡ 0).
+    ⊎-elim (λ even.
     inr (not-true (away ((2 * k + 1) % m)) (λ (t : away ((2 * k + 1) % m) ≡ true).
     let z : (2 * k + 1) % 2 ≡ 0 = sym (parity (2 * k + 1)) ∙ even ((2 * k + 1) % m) (within (2 * k + 1)) t in omega (arith, z))))
-    (λ (odd : (i : ℕ) → i < m → away i ≡ true → i % 2 ≡ 1).
+    (λ odd.
     inl (not-true (away (2 * k % m)) (λ (t : away (2 * k % m) ≡ true).
     let z : 2 * k % 2 ≡ 1 = sym (parity (2 * k)) ∙ odd (2 * k % m) (within (2 * k)) t in omega (arith, z))))
     one
@@ -217,9 +217,9 @@ module _ (ds : List (List ℕ)) (lent : ℕ → List ℕ) (rx : List ℕ) (away 
   own-class : OneClass all away → OneClass 8 (λ i. away (firstBurst n + i))
   unfolding firstBurst
   own-class one =
-      ⊎-elim (λ (even : (b : ℕ) → b < all → away b ≡ true → b % 2 ≡ 0).
+      ⊎-elim (λ even.
       inl (λ i l t. let e : (4 * n + i) % 2 ≡ 0 = even (4 * n + i) (omega (arith, h, l)) t in omega (arith, e)))
-      (λ (odd : (b : ℕ) → b < all → away b ≡ true → b % 2 ≡ 1).
+      (λ odd.
       inr (λ i l t. let e : (4 * n + i) % 2 ≡ 1 = odd (4 * n + i) (omega (arith, h, l)) t in omega (arith, e)))
       one
 

@@ -61,8 +61,8 @@ module _ (n : ℕ) (gone : ℕ → Bool) (each : OneOfEach n gone) (r : List ℕ
   pair-tells : (k : ℕ) → k < n → Tells 8 (pairCost r) k
   unfolding pairCost
   pair-tells k h s =
-      ⊎-elim (λ (p : gone (2 * k) ≡ false). omega (arith, differ-either (pairOf s 0 / 2) (pairOf s 1 / 2) (getD r (2 * k) 0) (only (2 * k) (omega (arith, h)) p) (first-turns s)))
-      (λ (p : gone (2 * k + 1) ≡ false). omega (arith, differ-either (pairOf s 0 % 2) (pairOf s 1 % 2) (getD r (2 * k + 1) 0) (only (2 * k + 1) (omega (arith, h)) p) (second-turns s)))
+      ⊎-elim (λ p. omega (arith, differ-either (pairOf s 0 / 2) (pairOf s 1 / 2) (getD r (2 * k) 0) (only (2 * k) (omega (arith, h)) p) (first-turns s)))
+      (λ p. omega (arith, differ-either (pairOf s 0 % 2) (pairOf s 1 % 2) (getD r (2 * k + 1) 0) (only (2 * k + 1) (omega (arith, h)) p) (second-turns s)))
       (each k h)
 
   -- and of all blocks of n bits, candidates or not, at most one disagrees in no present place
