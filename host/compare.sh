@@ -68,7 +68,7 @@ hostile_all() { # PROGRAM MODE
 
 # The handbook's examples: the kit and the reference answer as the paper says.
 compare_handbook() {
-    { handbook && all_missing && some_missing && lent_buffers && efr_lines && whose_lines; } >"$room/handbook"
+    { handbook && all_missing && some_missing && lent_buffers && efr_lines && whose_lines && mark_lines; } >"$room/handbook"
     sed 's/ => .*//' "$room/handbook" >"$room/lines"
     sed 's/.* => //' "$room/handbook" >"$room/want"
     "$room/reference" answer <"$room/lines" >"$room/from-reference"
@@ -100,6 +100,7 @@ compare_kit() {
         compare kit answer make-bursts "$seed" 4000
         compare kit answer make-efr "$seed" 4000
         compare kit answer make-whose "$seed" 4000
+        compare kit answer make-marks "$seed" 4000
         compare kit answer make-windows "$seed" 4000
     done
     compare_small_texts

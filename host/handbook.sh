@@ -1,5 +1,5 @@
 # 01's handbook examples that are run and not proved, that of the flags as 02 has it (M-101), what 02 says of missing bits (M-102), of enhanced
-# full rate (M-103), of the identity that a burst names (M-105) and of bursts lost by class (M-108), and what the table of refusals says of a lent buffer, as kit lines:
+# full rate (M-103), of the identity that a burst names (M-105), of bursts lost by class (M-108) and of marks (M-111), and what the table of refusals says of a lent buffer, as kit lines:
 # LINE => ANSWER, the answers typed from the papers. Sourced, by POSIX sh.
 
 sevens() { zeros "$1" | tr 0 7; } # COUNT
@@ -143,6 +143,54 @@ whose_lines() {
     # it writes nothing, and is lent nothing
     for bits in "$(zeros 36)" "$(zeros 35)" "$(zeros 35)3"; do say "lend 8 7 whose $bits => ?"; done
     say "whose => ?"
+}
+
+# Marks. A block with u(k) = 1 and the rest 0 has ones at seven places: c(2k), c(2k+1), c(2k+3), c(2k+6), c(2k+7), c(2k+8), c(2k+9). Two blocks differ in seven or more.
+mark_lines() {
+    one=1$(zeros 17)
+    # with four of its seven ones it is three away and the zeros are four
+    four_set=1101001$(zeros 29)
+    say "mark access $four_set $one 3 => yes"
+    for count in 0 2 4 7 65535; do say "mark access $four_set $one $count => no count"; done
+    say "mark access $four_set $(zeros 18) 4 => no fewest"
+    say "mark access $four_set $(zeros 18) 3 => no count"
+    # Three of the seven places are missing and two are 1, so that it and the zeros are both two away. Of the seven or more places in which a third block differs from
+    # the zeros at least four came, and at most two of those are 1: it is two away or more.
+    tied=2202001100$(zeros 26)
+    for block in "$one" "$(zeros 18)"; do
+        say "mark access $tied $block 2 => yes"
+        for count in 1 3; do say "mark access $tied $block $count => no count"; done
+    done
+    # where all is missing nothing disagrees
+    for words in 'speech 456 189' 'control 456 228' 'access 36 18' 'sch 78 39'; do
+        bits=${words#* }
+        received=${bits% *}
+        block=${bits#* }
+        channel=${words%% *}
+        say "mark $channel $(zeros "$received") $(zeros "$block") 0 => yes"
+        say "mark $channel $(zeros "$received") $(zeros "$block") 1 => no count"
+        say "mark $channel $(twos "$received") $(zeros $((block - 4)) | tr 0 1)$(zeros 4) 0 => yes"
+        say "mark $channel $(twos "$received") $(zeros $((block - 4)) | tr 0 1)$(zeros 4) $received => no count"
+        # the last four bits, and the one before them, whose seven ones all come
+        for place in 1 2 3 4; do say "mark $channel $(zeros "$received") $(ones_at "$block" $((block - place))) 7 => no tail"; done
+        say "mark $channel $(zeros "$received") $(ones_at "$block" $((block - 5))) 7 => no fewest"
+        # a wrong length of the block is no refusal; a wrong one of what was received is, and comes first
+        for length in 1 4 $((block - 1)) $((block + 1)) 300; do say "mark $channel $(zeros "$received") $(zeros $length) 0 => no length"; done
+        say "mark $channel $(zeros "$received")  0 => no length"
+        for length in 1 $((received - 1)) $((received + 1)); do say "mark $channel $(zeros $length) 2 9 => refused 1"; done
+        say "mark $channel  2 9 => refused 1"
+        say "mark $channel $(zeros $((received - 1)))3 $(zeros "$block") 0 => refused 2"
+        say "mark $channel $(zeros "$received") $(zeros $((block - 1)))2 0 => refused 2"
+        say "mark $channel $(zeros "$received") 2 0 => refused 2"
+    done
+    # of speech the first 378 count, and the last of them does
+    say "mark speech $(zeros 378)$(zeros 78 | tr 0 1) $(zeros 189) 0 => yes"
+    say "mark speech $(zeros 377)1$(zeros 78) $(zeros 189) 1 => yes"
+    say "mark control $(zeros 455)1 $(zeros 228) 1 => yes"
+    for channel in sacch efr access? Access; do say "mark $channel $(zeros 36) $(zeros 18) 0 => ?"; done
+    for count in 65536 000000 -1 x; do say "mark access $(zeros 36) $(zeros 18) $count => ?"; done
+    # it writes nothing, and is lent nothing
+    say "lend 8 7 mark access $(zeros 36) $(zeros 18) 0 => ?"
 }
 
 # The bursts of a stream of one block.

@@ -73,7 +73,7 @@ mod tests {
     fn the_words_stand_in_their_order() {
         let words = words().join(" ");
         let expected = "speech control sacch access sch efr \
-            speech? control? sacch? access? sch? efr? whose \
+            speech? control? sacch? access? sch? efr? whose mark \
             send end take totals fresh lend trellis help why";
         assert_eq!(words, expected);
     }
@@ -104,6 +104,10 @@ mod tests {
         let whose = "whose R: of 36 received bits, 2 for a missing one, IDENTITY and COUNT: \
                      the one identity under which access? accepts them, and its count";
         assert_eq!(help(b"whose").as_deref(), Some(whose));
+        let mark = "mark CHANNEL R U COUNT: yes, if no block of the speech, control, access or sch \
+                    bits R, 2 for a missing one, is nearer than the block U, which disagrees in COUNT \
+                    places; or no, and what is wrong first: length, tail, count or fewest";
+        assert_eq!(help(b"mark").as_deref(), Some(mark));
         let fresh = "fresh: fresh; both streams begin anew";
         assert_eq!(help(b"fresh").as_deref(), Some(fresh));
     }

@@ -4,6 +4,7 @@
 use crate::handbook;
 use crate::model::burst::FOUR_BURSTS;
 use crate::model::channel::{self, Received, NO_IDENTITY};
+use crate::model::marking::{self, Mark};
 use crate::model::receiving_stream::{Receiver, Taken, Totals, LENT_TO_TAKE};
 use crate::model::refusal::Refusal;
 use crate::model::sending_stream::Sender;
@@ -61,6 +62,11 @@ fn named(answer: Named) -> Told {
     told(answer, |(identity, count)| {
         Told::words(format!("{} {}", identity, count))
     })
+}
+
+/// Yes, or no and what is wrong.
+fn marked(answer: Result<Mark, Refusal>) -> Told {
+    told(answer, |mark| Told::words(mark.words().to_string()))
 }
 
 /// "waiting"; or the kind, n, the count and the bits; or "refused" and what is returned besides.
@@ -158,6 +164,11 @@ impl Kit {
             [b"trellis"] => Some(viewed(trellis::view(&[]))),
             [b"trellis", c] => Some(viewed(trellis::view(&bits(c)))),
             [b"whose", e] => Some(named(whose(&bits(e)))),
+            [b"mark", channel, e, u, count] => {
+                let (channel, count) = (marking::marked(channel)?, number(count)?);
+                let answer = marking::mark(channel, &bits(e), &bits(u), count.into());
+                Some(marked(answer))
+            }
             [b"totals"] => Some(totalled(self.receiver.totals())),
             [b"fresh"] => {
                 *self = Kit::fresh();
@@ -332,18 +343,20 @@ mod tests {
 
     #[test]
     fn lines_of_1000_bytes_are_read_and_those_of_1001_are_not() {
-        for words in [
-            "speech ",
-            "control? ",
-            "efr? ",
-            "whose ",
-            "trellis ",
-            "send ",
-            "take 0 ",
+        for (before, behind) in [
+            ("speech ", ""),
+            ("control? ", ""),
+            ("efr? ", ""),
+            ("whose ", ""),
+            ("mark sch ", " 1 1"),
+            ("mark sch 1 ", " 1"),
+            ("trellis ", ""),
+            ("send ", ""),
+            ("take 0 ", ""),
         ] {
-            let room = 1000 - words.len();
-            let read = format!("{}{{0*{}}}", words, room);
-            let unread = format!("{}{{0*{}}}", words, room + 1);
+            let room = 1000 - before.len() - behind.len();
+            let read = format!("{}{{0*{}}}{}", before, room, behind);
+            let unread = format!("{}{{0*{}}}{}", before, room + 1, behind);
             assert_eq!((full(&read).len(), full(&unread).len()), (1000, 1001));
             assert_eq!(answer_to(&read), "refused 1", "{}", read);
             assert_eq!(answer_to(&unread), "?", "{}", unread);
@@ -360,8 +373,13 @@ mod tests {
             ("send ", "refused 1"),
             ("take 0 ", "refused 1"),
             ("take 1 ", "refused 1"),
-            // The identity is empty here, and no number.
+            ("mark access  {0*18} 0", "refused 1"),
+            ("mark access   0", "refused 1"),
+            ("mark access {0*36}  0", "no length"),
+            // The identity is empty here, and no number; then the channel and the count.
             ("access  00000000", "?"),
+            ("mark  {0*36} {0*18} 0", "?"),
+            ("mark access {0*36} {0*18} ", "?"),
         ]);
     }
 
@@ -408,6 +426,8 @@ mod tests {
     #[test]
     fn a_bad_number_comes_before_every_refusal() {
         not_understood(&["access 65536 2", "access x 2", "access? 65536 {0*36}"]);
+        not_understood(&["mark access 3 2 65536", "mark access {3*36} {2*18} x"]);
+        not_understood(&["mark sch {3*78} {0*39} -1", "mark speech  {0*189} 000000"]);
     }
 
     #[test]
@@ -663,6 +683,271 @@ mod tests {
         not_understood(&["lend 8 7 whose {3*36}", "lend 8 7 whose", "lend 8 7 whose "]);
     }
 
+    /// Each block and its count have their mark on a channel, for these received bits.
+    fn marked_for(channel: &str, received: &str, marks: &[(&str, &str)]) {
+        for (handed_in, expected) in marks {
+            let line = format!("mark {} {} {}", channel, received, handed_in);
+            answered(&[(&line, expected)]);
+        }
+    }
+
+    #[test]
+    fn mark_says_yes_to_the_nearest_block_with_its_count() {
+        // The block of a burst: as sent, three altered, six missing, one altered and four missing.
+        for (received, count) in [
+            ("001110010001110010001100010011110000", 0),
+            ("000110010001110011001100010011010000", 3),
+            ("002112012001112010201100010011210000", 0),
+            ("000112012001112010201100010011110000", 1),
+        ] {
+            let right = format!("011010010001000000 {}", count);
+            let wrong = format!("011010010001000000 {}", count + 1);
+            marked_for("access", received, &[(&right, "yes"), (&wrong, "no count")]);
+        }
+        // Zeros disagree in four places, and the block with u(0) = 1 and the rest 0 in three.
+        marked_for(
+            "access",
+            "1101001{0*29}",
+            &[
+                ("1{0*17} 3", "yes"),
+                ("1{0*17} 00003", "yes"),
+                ("1{0*17} 2", "no count"),
+                ("1{0*17} 65535", "no count"),
+                ("{0*18} 4", "no fewest"),
+                ("{0*18} 3", "no count"),
+            ],
+        );
+    }
+
+    #[test]
+    fn mark_says_yes_to_all_that_tie() {
+        // Midway between zeros and the block that begins with 11.
+        marked_for(
+            "access",
+            "101000010010{0*24}",
+            &[
+                ("{0*18} 4", "yes"),
+                ("11{0*16} 4", "yes"),
+                ("1{0*17} 7", "no fewest"),
+                ("01{0*16} 7", "no fewest"),
+            ],
+        );
+        for (channel, received, block) in [
+            ("speech", "{2*456}", "{0110*46}1{0*4}"),
+            ("control", "{2*456}", "{0110*56}{0*4}"),
+            ("access", "{2*36}", "{01*7}{0*4}"),
+            ("sch", "{2*78}", "{1*35}{0*4}"),
+        ] {
+            let (none, one) = (format!("{} 0", block), format!("{} 1", block));
+            marked_for(channel, received, &[(&none, "yes"), (&one, "no count")]);
+        }
+    }
+
+    #[test]
+    fn every_marked_channel_has_its_lengths() {
+        for (channel, received, block) in [
+            ("speech", 456, 189),
+            ("control", 456, 228),
+            ("access", 36, 18),
+            ("sch", 78, 39),
+        ] {
+            let mark = |received, block| {
+                answer_to(&format!(
+                    "mark {} {{0*{}}} {{0*{}}} 0",
+                    channel, received, block
+                ))
+            };
+            assert_eq!(mark(received, block), "yes");
+            for other in [0, 18, 36, 39, 78, 189, 228, 378, received - 1, received + 1] {
+                let expected = if other == received {
+                    "yes"
+                } else {
+                    "refused 1"
+                };
+                assert_eq!(mark(other, block), expected, "{} {}", channel, other);
+            }
+            for other in [
+                0,
+                4,
+                8,
+                18,
+                25,
+                39,
+                184,
+                189,
+                228,
+                260,
+                block - 4,
+                block - 1,
+                block + 1,
+            ] {
+                let expected = if other == block { "yes" } else { "no length" };
+                assert_eq!(mark(received, other), expected, "{} {}", channel, other);
+            }
+        }
+    }
+
+    #[test]
+    fn of_speech_the_first_378_count() {
+        marked_for(
+            "speech",
+            "{0*378}{1*78}",
+            &[("{0*189} 0", "yes"), ("{0*189} 78", "no count")],
+        );
+        marked_for(
+            "speech",
+            "{0*377}1{2*78}",
+            &[("{0*189} 1", "yes"), ("{0*189} 0", "no count")],
+        );
+        marked_for("speech", "{0*455}3", &[("{0*189} 0", "refused 2")]);
+        marked_for(
+            "control",
+            "{0*455}1",
+            &[("{0*228} 1", "yes"), ("{0*228} 0", "no count")],
+        );
+    }
+
+    #[test]
+    fn mark_says_what_is_wrong_first() {
+        marked_for(
+            "access",
+            "{3*37}",
+            &[("2 9", "refused 1"), ("{0*18} 0", "refused 1")],
+        );
+        marked_for(
+            "access",
+            "{0*35}",
+            &[("{2*18} 9", "refused 1"), ("{0*18} 0", "refused 1")],
+        );
+        marked_for(
+            "access",
+            "{0*35}3",
+            &[("1 9", "refused 2"), ("{0*18} 0", "refused 2")],
+        );
+        marked_for(
+            "access",
+            "x{0*35}",
+            &[(" 9", "refused 2"), ("{1*18} 0", "refused 2")],
+        );
+        marked_for(
+            "access",
+            "{0*36}",
+            &[
+                ("2 9", "refused 2"),
+                ("x{1*30} 9", "refused 2"),
+                ("{0*17}2 0", "refused 2"),
+                ("{0*17}/ 0", "refused 2"),
+                ("1 9", "no length"),
+                (" 0", "no length"),
+                ("{0*17} 0", "no length"),
+                ("{1*19} 9", "no length"),
+                ("{1*18} 9", "no tail"),
+                ("{0*17}1 2", "no tail"),
+                ("{0*16}10 4", "no tail"),
+                ("{0*15}100 4", "no tail"),
+                ("{0*14}1000 5", "no tail"),
+                ("{0*13}10000 7", "no fewest"),
+                ("{0*13}10000 9", "no count"),
+                ("1{0*17} 0", "no count"),
+                ("1{0*17} 7", "no fewest"),
+                ("{0*18} 1", "no count"),
+                ("{0*18} 0", "yes"),
+            ],
+        );
+    }
+
+    #[test]
+    fn wrong_characters_of_either_list_are_refused_where_it_is_marked() {
+        for wrong in [b'3', b'9', b'/', b':', b'x', 0, 13, 128, 255] {
+            let line = [full("mark access {0*35}").as_bytes(), &[wrong], b" 0 0"].concat();
+            assert_eq!(answer(&line), "refused 2", "byte {}", wrong);
+            let line = [full("mark access {2*36} ").as_bytes(), &[wrong], b" 0"].concat();
+            assert_eq!(answer(&line), "refused 2", "byte {}", wrong);
+        }
+    }
+
+    #[test]
+    fn mark_has_one_word_and_four_arguments() {
+        not_understood(&["mark", "mark ", "mark access", "mark access {0*36}"]);
+        not_understood(&["mark access {0*36} {0*18}", "mark {0*36} {0*18} 0"]);
+        not_understood(&[
+            "mark access {0*36} {0*18} 0 ",
+            " mark access {0*36} {0*18} 0",
+        ]);
+        not_understood(&[
+            "mark  access {0*36} {0*18} 0",
+            "mark access  {0*36} {0*18} 0",
+        ]);
+        not_understood(&[
+            "mark access {0*36}  {0*18} 0",
+            "mark access {0*36} {0*18}  0",
+        ]);
+        not_understood(&[
+            "mark access {0*36} {0*18} 0 0",
+            "mark access 63 {0*36} {0*18} 0",
+        ]);
+        not_understood(&["mark access {0*36} 0 {0*18}", "access mark {0*36} {0*18} 0"]);
+        not_understood(&[
+            "mark {0*36} access {0*18} 0",
+            "mark\taccess {0*36} {0*18} 0",
+        ]);
+        for word in [
+            "", "m", "mar", "marks", "mark?", "?mark", "Mark", "MARK", "marc", "arkm", "marked",
+            "mark:", "mark\0",
+        ] {
+            not_understood(&[&format!("{} access {{0*36}} {{0*18}} 0", word)]);
+        }
+    }
+
+    #[test]
+    fn mark_has_one_of_four_channels() {
+        for (channel, received, block) in [
+            ("sacch", 464, 228),
+            ("efr", 456, 189),
+            ("facch", 456, 228),
+            ("speech?", 456, 189),
+            ("access?", 36, 18),
+            ("Access", 36, 18),
+            ("ACCESS", 36, 18),
+            ("acces", 36, 18),
+            ("accesss", 36, 18),
+            ("access\0", 36, 18),
+            ("SCH", 78, 39),
+            ("sc", 78, 39),
+            ("7", 36, 18),
+            ("mark", 36, 18),
+        ] {
+            let line = format!("mark {} {{0*{}}} {{0*{}}} 0", channel, received, block);
+            not_understood(&[&line]);
+        }
+    }
+
+    #[test]
+    fn the_count_that_is_marked_is_a_number() {
+        let count_is = |count: &str| answer_to(&format!("mark access {{0*36}} {{0*18}} {}", count));
+        for count in ["0", "00", "00000"] {
+            assert_eq!(count_is(count), "yes", "{}", count);
+        }
+        for count in ["1", "7", "00256", "65535"] {
+            assert_eq!(count_is(count), "no count", "{}", count);
+        }
+        for count in [
+            "", "65536", "65537", "99999", "000000", "-1", "-0", "+0", "x", "0x0", "0.0", "0,",
+            "O", "\u{660}", "0\0", "0\t",
+        ] {
+            assert_eq!(count_is(count), "?", "{}", count);
+        }
+    }
+
+    #[test]
+    fn mark_writes_nothing_that_is_lent() {
+        not_understood(&["lend 18 7 mark access {0*36} {0*18} 0"]);
+        not_understood(&["lend 0 7 mark access {0*36} {0*18} 0"]);
+        not_understood(&["lend 36 7 mark access {0*35} {0*18} 0"]);
+        not_understood(&["lend 8 7 mark access {0*36} {2*18} 0"]);
+        not_understood(&["lend 8 7 mark", "lend 8 7 mark access {0*36} {0*18} x"]);
+    }
+
     #[test]
     fn the_view_answers_sixteen_numbers() {
         answered(&[
@@ -810,6 +1095,7 @@ mod tests {
             first,
             "trellis 11",
             "whose {0*36}",
+            "mark access {0*36} {0*18} 0",
             "Fresh",
             send,
             "end ",
@@ -817,7 +1103,7 @@ mod tests {
             second,
             "end",
         ]);
-        let kept = [0, 2, 6, 9, 10].map(|k| between[k].clone());
+        let kept = [0, 2, 7, 10, 11].map(|k| between[k].clone());
         assert_eq!(kept[..], alone[..]);
     }
 
@@ -1038,10 +1324,10 @@ mod tests {
     fn verbs() -> Vec<String> {
         let channels = CHANNELS.map(|channel| channel.name.to_string());
         let asked = CHANNELS.map(|channel| format!("{}?", channel.name));
-        let of_access = ["whose"].map(String::from);
+        let of_nearest = ["whose", "mark"].map(String::from);
         let of_streams = ["send", "end", "take", "totals", "fresh"].map(String::from);
         let others = ["lend", "trellis", "help", "why"].map(String::from);
-        [&channels[..], &asked, &of_access, &of_streams, &others].concat()
+        [&channels[..], &asked, &of_nearest, &of_streams, &others].concat()
     }
 
     #[test]
@@ -1053,7 +1339,8 @@ mod tests {
     fn filled_in(line: &str) -> String {
         let fill_in = |field| match field {
             "WORD" | "LINE" => "end",
-            "ID" | "N" | "B" | "D" | "E" | "R" => "1",
+            "CHANNEL" => "access",
+            "ID" | "N" | "B" | "D" | "E" | "R" | "U" | "COUNT" => "1",
             word => word,
         };
         let fields: Vec<&str> = line.split(' ').map(fill_in).collect();
@@ -1262,6 +1549,8 @@ mod tests {
             ("access? 63 {0*35}1", "1 00000000"),
             ("lend 8 7 access? 63 {0*35}1", "1 00000000"),
             ("whose {0*35}1", "63 1"),
+            ("mark access {0*35}1 {0*18} 1", "yes"),
+            ("mark speech {0*456} {0*189} 1", "no count"),
             ("fresh ", "?"),
             ("totals ", "?"),
             ("lend 260 7 totals", "?"),

@@ -18,6 +18,7 @@
 //! reference make-bursts SEED COUNT     prints COUNT kit lines of lessons in which bursts are missing
 //! reference make-efr SEED COUNT        prints COUNT kit lines of enhanced full rate
 //! reference make-whose SEED COUNT      prints COUNT kit lines, most of which ask whose a burst was
+//! reference make-marks SEED COUNT      prints COUNT kit lines, most of which mark a decoder's block
 //! reference make-windows SEED COUNT    prints COUNT kit lines as a text from Windows has them
 //! reference make-full SEED             prints the kit lines of one stream of 16,383 blocks
 //! reference make-sheet SEED COUNT      prints COUNT access sheet lines
@@ -149,7 +150,7 @@ mod tests {
     }
 
     #[test]
-    fn the_eighteen_commands_are_known() {
+    fn the_twenty_commands_are_known() {
         assert!(matches!(task_of("answer"), Some(Task::Answer)));
         assert!(matches!(task_of("sheet"), Some(Task::Sheet)));
         assert!(matches!(task_of("examples"), Some(Task::Examples)));
@@ -165,6 +166,7 @@ mod tests {
         makes("make-missing 12 1200", "make-missing", 12, 1200);
         makes("make-efr 13 1300", "make-efr", 13, 1300);
         makes("make-whose 14 1400", "make-whose", 14, 1400);
+        makes("make-marks 15 1500", "make-marks", 15, 1500);
         makes("make-bursts 7 20", "make-bursts", 7, 20);
         makes("make-windows 0 900", "make-windows", 0, 900);
         makes("make-full 3", "make-full", 3, 0);
@@ -178,7 +180,8 @@ mod tests {
             make-stream SEED BLOCKS | make-lend SEED COUNT | make-help SEED COUNT | \
             make-totals SEED COUNT | make-ties SEED COUNT | make-missing SEED COUNT | \
             make-bursts SEED COUNT | make-efr SEED COUNT | make-whose SEED COUNT | \
-            make-windows SEED COUNT | make-full SEED | make-sheet SEED COUNT";
+            make-marks SEED COUNT | make-windows SEED COUNT | make-full SEED | \
+            make-sheet SEED COUNT";
         assert_eq!(usage(), words);
     }
 
@@ -217,6 +220,10 @@ mod tests {
             "make-whose 7",
             "make-who 7 1",
             "whose",
+            "make-marks",
+            "make-marks 7",
+            "make-mark 7 1",
+            "mark",
             "make-windows 7 x",
             "make-window 7 1",
             "help",

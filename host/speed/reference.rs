@@ -11,6 +11,8 @@ mod model;
 
 use model::burst::Interleaving;
 use model::channel::{self, Channel, ACCESS};
+use model::coding::convolve;
+use model::marking::{self, Mark};
 use model::receiving_stream::{Receiver, Taken};
 use model::sending_stream::{sent_and_ended, Sender};
 use model::whose::whose;
@@ -52,6 +54,16 @@ fn decode(channel: &Channel, calls: usize) -> bool {
 fn name_sender(calls: usize) -> bool {
     let sent = ACCESS.encode(IDENTITY, &bits(8), 36).unwrap();
     repeat(calls, || whose(&sent)) == Ok((IDENTITY, 0))
+}
+
+/// Whether a block gets yes, so many times: one of its coded bits is altered.
+fn mark(channel: &Channel, calls: usize) -> bool {
+    let mut u = bits(channel.pairs);
+    u[channel.pairs - 4..].fill(0);
+    let mut e = convolve(&u);
+    e[5] = 1 - e[5];
+    e.resize(channel.writes, 0);
+    repeat(calls, || marking::mark(channel, &e, &u, 1)) == Ok(Mark::Yes)
 }
 
 /// Whether a stream sends so many blocks.
@@ -109,6 +121,9 @@ fn run(name: &str, calls: usize) -> bool {
         (_, "encode", Some(channel)) => encode(channel, calls),
         (_, "decode", Some(channel)) => decode(channel, calls),
         ("access", "whose", _) => name_sender(calls),
+        ("mark", word, _) => {
+            marking::marked(word.as_bytes()).map_or(false, |channel| mark(channel, calls))
+        }
         ("send", "speech", _) => send(calls, 260),
         ("send", "facch", _) => send(calls, 184),
         ("take", "speech", _) => take(calls, 260, as_sent, false),

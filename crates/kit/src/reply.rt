@@ -1,6 +1,7 @@
 // From a line to its answer.
 use crate::blocks::receive;
 use crate::blocks::send;
+use crate::marks::mark;
 use crate::streams::Said;
 use crate::streams::Streams;
 use crate::streams::call;
@@ -98,7 +99,7 @@ fn fill(written: &mut [u8], byte: u8)
 // The answer to a line that asks for nothing.
 fn unknown(streams: Streams) -> Said {
     Said {
-        answer: Answer::new(*b"?       "),
+        answer: Answer::unknown(),
         streams,
     }
 }
@@ -118,11 +119,20 @@ fn answer_verb(streams: Streams, k: usize, number: u16, line: &[u8], lent: &mut 
 {
     let mut read = [0u8; 1000];
     let n = read_bits(field(line, place_of(b'b', verb_at(k))), &mut read);
-    answer(streams, asked_by(k), number, &read[0..n], lent)
+    answer(streams, asked_by(k), line, number, &read[0..n], lent)
 }
 
-// The answer to what is asked for, with a number and bits.
-fn answer(streams: Streams, asks: Asks, number: u16, read: &[u8], written: &mut [u8]) -> Said {
+// The answer to what a line asks for, with its number and its bits.
+fn answer(
+    streams: Streams,
+    asks: Asks,
+    line: &[u8],
+    number: u16,
+    read: &[u8],
+    written: &mut [u8],
+) -> Said
+    requires { ⌜ length (now line) ≤ 1000 ⌝ }
+{
     match asks {
         Asks::Send(channel) => {
             let told = send(channel, number, read, written);
@@ -140,6 +150,10 @@ fn answer(streams: Streams, asks: Asks, number: u16, read: &[u8], written: &mut 
         }
         Asks::Whose => Said {
             answer: Answer::of_whose(coder::whose_access(read)),
+            streams,
+        },
+        Asks::Mark => Said {
+            answer: mark(line, read, number),
             streams,
         },
         Asks::View => Said {

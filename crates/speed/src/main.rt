@@ -2,6 +2,7 @@
 // that the last call told is written; what an entry must tell is tested elsewhere.
 mod blocks;
 mod enhanced;
+mod marked;
 mod named;
 mod streams;
 
@@ -53,7 +54,27 @@ fn call(name: &[u8], calls: u8) -> u32 {
     if same(name, b"take-charted") {
         return streams::take_speech(calls, 0, true);
     }
+    if name.len() > 5 && same(&name[0..5], b"mark-") {
+        return call_mark(&name[5..], calls);
+    }
     call_block(name, calls)
+}
+
+// The mark of a channel's block.
+fn call_mark(channel: &[u8], calls: u8) -> u32 {
+    if same(channel, b"speech") {
+        return marked::speech(calls);
+    }
+    if same(channel, b"control") {
+        return marked::control(calls);
+    }
+    if same(channel, b"access") {
+        return marked::access(calls);
+    }
+    if same(channel, b"sch") {
+        return marked::sch(calls);
+    }
+    65535
 }
 
 // An entry of a block.

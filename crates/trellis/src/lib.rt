@@ -2,8 +2,10 @@
 mod search;
 mod steps;
 
+pub use search::fewest;
 pub use search::nearest;
 pub use search::view;
+pub use steps::apart;
 
 // At most 228 pairs, the longest block, are ever decoded.
 pub const LONGEST: usize = 228;

@@ -4,7 +4,7 @@ use crate::steps::all_costs;
 use crate::steps::choices;
 use crate::steps::cost_place;
 use crate::steps::step;
-ghost use mathlib.Core.List.{_++_, reverse};
+ghost use mathlib.Core.List.{[], _++_, reverse};
 ghost use mathlib.Core.Path.{_≡_};
 ghost use Prim.Native.Nat.{_+_, _-_, _*_, _/_, _%_, _^_, _≤_, _<_};
 ghost use lib.ListN.{length, drop};
@@ -13,14 +13,11 @@ ghost use Rattle.register.specs.Register.{bit, from};
 ghost use Rattle.trellis.specs.Nearest.{row, nearest, nearestCount, longest};
 ghost use Rattle.trellis.specs.laws.Memory.{Remembers, retrace, bitsOf};
 
-// The row after n pairs, and in `memory` the choices of each.
-fn search(c: &[u8], n: usize, memory: &mut [u16]) -> [u16; 16]
-    requires { ⌜ (length (now c) ≡ 2 * n) × (n ≤ longest) × (length (now memory) ≡ longest) × Symbols (now c) ⌝ }
-    ensures { λ r. ⌜ (r ≡ row (now (c .entry)) n) × (Remembers (now (c .entry)) n (now (memory .exit))) ⌝ }
+// The row of no pairs: state 0 has 0, and no bits end in the others.
+fn first_row() -> [u16; 16]
+    ensures { λ r. ⌜ r ≡ row [] 0 ⌝ }
 {
-    let costs = all_costs();
-    // of no pairs: state 0 has 0, and no bits end in the others
-    let mut row = [
+    [
         0,
         65535,
         65535,
@@ -37,7 +34,16 @@ fn search(c: &[u8], n: usize, memory: &mut [u16]) -> [u16; 16]
         65535,
         65535,
         65535,
-    ];
+    ]
+}
+
+// The row after n pairs, and in `memory` the choices of each.
+fn search(c: &[u8], n: usize, memory: &mut [u16]) -> [u16; 16]
+    requires { ⌜ (length (now c) ≡ 2 * n) × (n ≤ longest) × (length (now memory) ≡ longest) × Symbols (now c) ⌝ }
+    ensures { λ r. ⌜ (r ≡ row (now (c .entry)) n) × (Remembers (now (c .entry)) n (now (memory .exit))) ⌝ }
+{
+    let costs = all_costs();
+    let mut row = first_row();
     let mut k = 0;
     while k < n {
         let w = costs[cost_place(c[2 * k], c[2 * k + 1])];
@@ -88,11 +94,36 @@ pub fn nearest(c: &[u8], n: usize, u: &mut [u8; LONGEST]) -> u16
     row[0]
 }
 
+// The row after n pairs, where nothing is walked back.
+fn last_row(c: &[u8], n: usize) -> [u16; 16]
+    requires { ⌜ (length (now c) ≡ 2 * n) × Symbols (now c) ⌝ }
+    ensures { λ r. ⌜ r ≡ row (now (c .entry)) n ⌝ }
+{
+    let costs = all_costs();
+    let mut row = first_row();
+    let mut k = 0;
+    while k < n {
+        let w = costs[cost_place(c[2 * k], c[2 * k + 1])];
+        let next = step(row, w);
+        row = next;
+        k += 1;
+    }
+    row
+}
+
+// In how few places a candidate of n bits can disagree with c (02, M-111).
+pub fn fewest(c: &[u8], n: usize) -> u16
+    requires { ⌜ (length (now c) ≡ 2 * n) × Symbols (now c) ⌝ }
+    ensures { λ r. ⌜ r ≡ nearestCount (now (c .entry)) n ⌝ }
+{
+    let row = last_row(c, n);
+    row[0]
+}
+
 // The sixteen numbers after the pairs of c.
 pub fn view(c: &[u8]) -> [u16; 16]
     requires { ⌜ (length (now c) ≤ 2 * longest) × (length (now c) % 2 ≡ 0) × Symbols (now c) ⌝ }
     ensures { λ r. ⌜ r ≡ row (now (c .entry)) (length (now (c .entry)) / 2) ⌝ }
 {
-    let mut memory = [0u16; LONGEST];
-    search(c, c.len() / 2, &mut memory)
+    last_row(c, c.len() / 2)
 }

@@ -8,7 +8,7 @@ ghost use Rattle.convolution.specs.Pairs.{pairOf};
 ghost use Rattle.trellis.specs.laws.Steps.{costInto, costTable, stepAt, chosenAt, turned};
 
 // Does received r disagree with coded bit x? A missing bit, 2, disagrees with nothing (02, M-102).
-fn apart(x: u8, r: u8) -> u16
+pub fn apart(x: u8, r: u8) -> u16
     ensures { λ n. ⌜ (n ≡ differ x r) × (n ≤ 1) ⌝ }
 {
     if r == 2 {

@@ -1,4 +1,4 @@
-// The answer to a line: a word, numbers and bits, any of which may be missing.
+// The answer to a line: a word and what it says more, numbers and bits, any of which may be missing.
 use answers::Maybe;
 use answers::Returned;
 use chart::Kind;
@@ -6,11 +6,14 @@ use chart::Totals;
 use chart::Values;
 use coder::View;
 use coder::Whose;
+use marking::Fault;
+use marking::Mark;
 
-// The word is filled up with spaces. The first `count` of the numbers are said, and the first `bits` of the bytes that were written; where the
+// Both words are filled up with spaces. The first `count` of the numbers are said, and the first `bits` of the bytes that were written; where the
 // line lent the buffer itself, all of it is said, and that there is none.
 pub struct Answer {
     pub word: [u8; 8],
+    pub what: [u8; 8],
     pub numbers: [u32; 16],
     pub count: usize,
     pub bits: usize,
@@ -26,11 +29,17 @@ impl Answer {
     pub fn new(word: [u8; 8]) -> Self {
         Self {
             word,
+            what: NO_WORD,
             numbers: [0; 16],
             count: 0,
             bits: 0,
             lent: false,
         }
+    }
+
+    // The answer to a line that asks for nothing.
+    pub fn unknown() -> Self {
+        Self::new(*b"?       ")
     }
 
     // One number more, where there is room.
@@ -81,6 +90,23 @@ impl Answer {
         }
     }
 
+    // Yes; or no, and what is wrong first; or the refusal.
+    pub fn of_mark(mark: Mark) -> Self {
+        match mark {
+            Mark::Yes => Self::new(*b"yes     "),
+            Mark::No(fault) => Self::no(fault),
+            Mark::Refused(why) => Self::refused(answers::number(why) as u16),
+        }
+    }
+
+    // No, and what is wrong.
+    fn no(fault: Fault) -> Self {
+        let mut answer = Self::new(*b"no      ");
+        let what = fault_word(fault);
+        answer.what = what;
+        answer
+    }
+
     // The sixteen numbers, or the refusal.
     pub fn of_view(view: View) -> Self {
         let told = view.told;
@@ -90,6 +116,7 @@ impl Answer {
         match number {
             Maybe::None => Self {
                 word: NO_WORD,
+                what: NO_WORD,
                 numbers: wide(row),
                 count: 16,
                 bits: 0,
@@ -149,4 +176,14 @@ fn wide(row: [u16; 16]) -> [u32; 16] {
         numbers[k] = row[k] as u32;
     }
     numbers
+}
+
+// What is wrong with a block or its count, in a word.
+fn fault_word(fault: Fault) -> [u8; 8] {
+    match fault {
+        Fault::Length => *b"length  ",
+        Fault::Tail => *b"tail    ",
+        Fault::Count => *b"count   ",
+        Fault::Fewest => *b"fewest  ",
+    }
 }

@@ -3,17 +3,17 @@ ghost use mathlib.Core.Path.{_≡_};
 ghost use lib.ListN.{length};
 
 // How many words there are.
-pub const WORDS: usize = 22;
+pub const WORDS: usize = 23;
 
 // How many refusals there are.
 pub const REFUSALS: usize = 10;
 
 // The words.
-const ALL: [u8; 132] =
-    *b"speech control sacch access sch efr speech? control? sacch? access? sch? efr? whose send end take totals fresh lend trellis help why";
+const ALL: [u8; 137] =
+    *b"speech control sacch access sch efr speech? control? sacch? access? sch? efr? whose mark send end take totals fresh lend trellis help why";
 
 // A line for each word, in the same order: what stands after it, and what it answers.
-const HELP: [u8; 2071] = *b"speech D: the 456 coded bits of the 260 bits D
+const HELP: [u8; 2302] = *b"speech D: the 456 coded bits of the 260 bits D
 control D: the 456 coded bits of the 184 bits D
 sacch D: the 464 bits of four bursts that carry the 184 bits D
 access ID D: the 36 bits of an access burst that carries the 8 bits D, for the identity ID
@@ -26,6 +26,7 @@ access? ID R: of 36 received bits, 2 for a missing one, COUNT and the 8 bits of 
 sch? R: of 78 received bits, 2 for a missing one, COUNT and the 25 bits of the nearest block
 efr? R: of 456 received bits, 2 for a missing one, COUNT and the 244 bits of enhanced full rate of the nearest block
 whose R: of 36 received bits, 2 for a missing one, IDENTITY and COUNT: the one identity under which access? accepts them, and its count
+mark CHANNEL R U COUNT: yes, if no block of the speech, control, access or sch bits R, 2 for a missing one, is nearer than the block U, which disagrees in COUNT places; or no, and what is wrong first: length, tail, count or fewest
 send D: the next four bursts of the stream, 464 bits, in which the block D begins: 260 bits are speech, 184 FACCH
 end: the last four bursts of the stream, 464 bits
 take B E: of the 116 bits E of burst B, 2 for a missing one: waiting, or the block N that it ends: speech N COUNT BITS, or facch N COUNT BITS
@@ -48,14 +49,14 @@ the parity is bad
 as many flags are 1 as are 0, and the parity is bad as FACCH and as speech
 the parity of enhanced full rate is good and its CRC is bad";
 
-pub fn all_words() -> [u8; 132]
-    ensures { λ r. ⌜ 132 ≡ length r ⌝ }
+pub fn all_words() -> [u8; 137]
+    ensures { λ r. ⌜ 137 ≡ length r ⌝ }
 {
     ALL
 }
 
-pub fn help_page() -> [u8; 2071]
-    ensures { λ r. ⌜ 2071 ≡ length r ⌝ }
+pub fn help_page() -> [u8; 2302]
+    ensures { λ r. ⌜ 2302 ≡ length r ⌝ }
 {
     HELP
 }

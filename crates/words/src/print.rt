@@ -1,4 +1,4 @@
-// An answer in characters: its word, its numbers and its bits, parted by spaces.
+// An answer in characters: its words, its numbers and its bits, parted by spaces.
 use crate::answer::Answer;
 use crate::fields::field;
 use text::put_byte;
@@ -14,12 +14,14 @@ pub fn put_answer(out: &mut [u8], answer: Answer, written: &[u8]) -> usize
     ensures { λ r. ⌜ r ≤ 1000 ⌝ }
 {
     let word = answer.word;
+    let what = answer.what;
     let numbers = answer.numbers;
     let count = answer.count;
     let bits = answer.bits;
     let lent = answer.lent;
-    let n = put_padded(out, word);
-    let m = put_numbers(out, n, numbers, count);
+    let n = put_padded(out, 0, word);
+    let w = put_what(out, n, what);
+    let m = put_numbers(out, w, numbers, count);
     if bits > 0 {
         let l = put_space(out, m);
         return put_digits(out, l, first(written, bits));
@@ -31,17 +33,29 @@ pub fn put_answer(out: &mut [u8], answer: Answer, written: &[u8]) -> usize
 }
 
 // A word, without the spaces that fill it up.
-fn put_padded(out: &mut [u8], word: [u8; 8]) -> usize
-    requires { ⌜ 1000 ≤ length (now out) ⌝ }
-    ensures { λ r. ⌜ r ≤ 8 ⌝ }
+fn put_padded(out: &mut [u8], n: usize, word: [u8; 8]) -> usize
+    requires { ⌜ (n ≤ 9) × (1000 ≤ length (now out)) ⌝ }
+    ensures { λ r. ⌜ r ≤ n + 8 ⌝ }
 {
-    put_word(out, 0, field(&word, 0))
+    put_word(out, n, field(&word, 0))
+}
+
+// The second word, where there is one.
+fn put_what(out: &mut [u8], n: usize, what: [u8; 8]) -> usize
+    requires { ⌜ (n ≤ 8) × (1000 ≤ length (now out)) ⌝ }
+    ensures { λ r. ⌜ r ≤ 17 ⌝ }
+{
+    if what[0] == b' ' {
+        return n;
+    }
+    let m = put_space(out, n);
+    put_padded(out, m, what)
 }
 
 // The first `count` of the numbers.
 fn put_numbers(out: &mut [u8], n: usize, numbers: [u32; 16], count: usize) -> usize
-    requires { ⌜ (n ≤ 8) × (1000 ≤ length (now out)) ⌝ }
-    ensures { λ r. ⌜ r ≤ 344 ⌝ }
+    requires { ⌜ (n ≤ 17) × (1000 ≤ length (now out)) ⌝ }
+    ensures { λ r. ⌜ r ≤ 353 ⌝ }
 {
     let mut m = n;
     for k in 0..16 {

@@ -31,6 +31,7 @@ pub enum Asks {
     Send(Channel),
     Receive(Channel),
     Whose,
+    Mark,
     View,
     Stream(Call),
     Nothing,
@@ -39,9 +40,10 @@ pub enum Asks {
 // A row of the table, filled up with spaces.
 pub type Verb = [u8; 20];
 
-const ROWS: usize = 20;
+const ROWS: usize = 21;
 
-// Every verb: its word, how many bytes are written for it, and its arguments in order, n for a number and b for bits.
+// Every verb: its word, how many bytes are written for it, and its arguments in order, n for a number and b for bits; of a mark c for the channel and u for
+// the block.
 // One that may have more arguments or fewer has a row for each: `trellis` alone views nothing.
 const VERBS: [Verb; ROWS] = [
     *b"speech 456 b        ",
@@ -57,6 +59,7 @@ const VERBS: [Verb; ROWS] = [
     *b"sch? 25 b           ",
     *b"efr? 244 b          ",
     *b"whose 0 b           ",
+    *b"mark 0 cbun         ",
     *b"trellis 0 b         ",
     *b"trellis 0           ",
     *b"send 464 b          ",
@@ -81,6 +84,7 @@ const ASKED: [Asks; ROWS] = [
     Asks::Receive(Channel::Sch),
     Asks::Receive(Channel::Efr),
     Asks::Whose,
+    Asks::Mark,
     Asks::View,
     Asks::View,
     Asks::Stream(Call::Send),

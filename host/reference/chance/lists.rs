@@ -10,6 +10,13 @@ pub fn random_bits(random: &mut Random, length: usize) -> Vec<u8> {
     (0..length).map(|_| random.below(2) as u8).collect()
 }
 
+/// A random candidate of n bits: the last four are 0.
+pub fn candidate(random: &mut Random, n: usize) -> Vec<u8> {
+    let mut u = random_bits(random, n);
+    u[n - 4..].fill(0);
+    u
+}
+
 /// So many of the indices, each at most once.
 fn choose(random: &mut Random, mut indices: Vec<usize>, number: usize) -> Vec<usize> {
     let mut chosen = Vec::new();
@@ -38,14 +45,19 @@ fn some_indices(random: &mut Random, whole: usize, number: usize) -> Vec<usize> 
     choose(random, (first..first + stretch).collect(), number)
 }
 
-/// Alters so many bits of a list, and so many others are missing then.
-pub fn alter_and_lose(random: &mut Random, list: &mut [u8], altered: usize, missing: usize) {
-    let indices = some_indices(random, list.len(), altered + missing);
+/// Alters the bits at the first so many of the indices, and those at the others are missing then.
+fn alter_first_and_lose(list: &mut [u8], indices: &[usize], altered: usize) {
     let (altered, missing) = indices.split_at(altered.min(indices.len()));
     turn_over(list, altered);
     for &k in missing {
         list[k] = MISSING;
     }
+}
+
+/// Alters so many bits of a list, and so many others are missing then.
+pub fn alter_and_lose(random: &mut Random, list: &mut [u8], altered: usize, missing: usize) {
+    let indices = some_indices(random, list.len(), altered + missing);
+    alter_first_and_lose(list, &indices, altered);
 }
 
 /// Alters so many bits of a list.
@@ -59,7 +71,7 @@ pub fn lose(random: &mut Random, list: &mut [u8], number: usize) {
 }
 
 /// n bits, the last four 0, with an even number of ones that stand near each other.
-fn short_difference(random: &mut Random, n: usize) -> Vec<u8> {
+pub fn short_difference(random: &mut Random, n: usize) -> Vec<u8> {
     let mut u = vec![0; n];
     let free = n.saturating_sub(4);
     if free < 2 {
@@ -79,13 +91,27 @@ fn short_difference(random: &mut Random, n: usize) -> Vec<u8> {
     u
 }
 
+/// Moves a coded candidate towards the one that differs from it by these bits of u. Of the places in
+/// which the two differ so many are missing then, and of the others half are altered, rounded down,
+/// and so many more.
+pub fn move_towards(
+    random: &mut Random,
+    list: &mut [u8],
+    difference: &[u8],
+    missing: usize,
+    beyond_half: usize,
+) {
+    let places = ones_at(&convolve(difference));
+    let altered = places.len().saturating_sub(missing) / 2 + beyond_half;
+    let chosen = choose(random, places, altered + missing);
+    alter_first_and_lose(list, &chosen, altered);
+}
+
 /// Moves a coded candidate of n bits half of the way to another one.
 pub fn move_midway(random: &mut Random, list: &mut [u8], n: usize) {
     // Each one of u makes seven ones of c, so an even number of ones makes an even number.
-    let difference = convolve(&short_difference(random, n));
-    let places = ones_at(&difference);
-    let half = places.len() / 2;
-    turn_over(list, &choose(random, places, half));
+    let difference = short_difference(random, n);
+    move_towards(random, list, &difference, 0, 0);
 }
 
 /// All zeros or all ones, with a few bits turned over.
@@ -187,6 +213,36 @@ mod tests {
         }
         assert_eq!(short_difference(&mut random, 5), [0; 5]);
         assert_eq!(short_difference(&mut random, 2), [0; 2]);
+    }
+
+    #[test]
+    fn a_list_is_moved_towards_another_candidate_and_no_further_than_said() {
+        let mut random = Random::new(321);
+        for missing in 0..=8 {
+            for beyond_half in 0..=3 {
+                let difference = short_difference(&mut random, 18);
+                let mut list = vec![0; 36];
+                move_towards(&mut random, &mut list, &difference, missing, beyond_half);
+                let differ = ones_at(&convolve(&difference));
+                let moved: Vec<usize> = (0..36).filter(|&k| list[k] != 0).collect();
+                assert!(moved.iter().all(|k| differ.contains(k)));
+                let left = differ.len().saturating_sub(missing);
+                let altered = (left / 2 + beyond_half).min(differ.len());
+                assert_eq!(ones(&list), altered);
+                assert_eq!(moved.len(), differ.len().min(altered + missing));
+            }
+        }
+    }
+
+    #[test]
+    fn candidates_end_in_four_zeros() {
+        let mut random = Random::new(322);
+        for n in [4, 5, 18, 228] {
+            let u = candidate(&mut random, n);
+            assert_eq!((u.len(), &u[n - 4..]), (n, &[0; 4][..]));
+        }
+        let free = (0..200).map(|_| candidate(&mut random, 5)[0]);
+        assert!((50..150).contains(&free.filter(|&bit| bit == 1).count()));
     }
 
     #[test]

@@ -8,6 +8,7 @@ mod help_lines;
 mod lend_lines;
 mod lesson;
 mod lesson_lines;
+mod mark_lines;
 mod missing_lines;
 mod received_lines;
 mod refused_calls;
@@ -39,7 +40,7 @@ pub struct Maker {
 }
 
 /// All makers.
-pub static MAKERS: [Maker; 16] = [
+pub static MAKERS: [Maker; 17] = [
     Maker {
         mode: "make-lines",
         numbers: "SEED COUNT",
@@ -117,6 +118,12 @@ pub static MAKERS: [Maker; 16] = [
         numbers: "SEED COUNT",
         with_returns: false,
         lines: whose_lines::lines,
+    },
+    Maker {
+        mode: "make-marks",
+        numbers: "SEED COUNT",
+        with_returns: false,
+        lines: |random, count| each(random, count, mark_lines::line),
     },
     Maker {
         mode: "make-windows",

@@ -87,7 +87,7 @@ fn receiver_of(random: &mut Random, sender: usize) -> usize {
 }
 
 /// Coded bits as received, before they are put on bursts.
-fn coded_list(random: &mut Random, channel: &Channel, sender: usize) -> Vec<u8> {
+pub fn coded_list(random: &mut Random, channel: &Channel, sender: usize) -> Vec<u8> {
     let mut list = coded(random, channel, sender);
     match random.below(20) {
         0 => list = lists::random_bits(random, list.len()),
@@ -116,7 +116,7 @@ pub fn coded(random: &mut Random, channel: &Channel, sender: usize) -> Vec<u8> {
 }
 
 /// Alters 0 to 20 bits; 0 to 3, 4 to 7 and more are all common.
-fn alter_some(random: &mut Random, list: &mut [u8]) {
+pub fn alter_some(random: &mut Random, list: &mut [u8]) {
     let number = match random.below(10) {
         0..=4 => random.below(4),
         5..=7 => 4 + random.below(4),
@@ -159,7 +159,7 @@ fn as_sent(random: &mut Random, channel: &Channel, c: Vec<u8>) -> Vec<u8> {
     on_four_bursts(&c, &flags)
 }
 
-/// A length other than the right one; the longest fills the line up to its limit.
+/// A length other than the right one, but none over the longest, which fills the line up to its limit.
 fn another_length(random: &mut Random, right: usize, longest: usize) -> usize {
     let other = random.pick(&CHANNELS);
     let length = match random.below(10) {
@@ -176,7 +176,7 @@ fn another_length(random: &mut Random, right: usize, longest: usize) -> usize {
         8 => 2 * random.below(longest / 2) + 1,
         _ => random.below(longest + 1),
     };
-    fields::other_than(right, length)
+    fields::other_than(right, length.min(longest))
 }
 
 /// Cuts the bits short or draws them out to another length.

@@ -9,9 +9,12 @@ use crate::text;
 /// A verb's word and its arguments.
 pub struct Request {
     pub word: Vec<u8>,
-    /// For a channel that has one.
-    identity: Option<Vec<u8>>,
+    /// What stands before the bits: the identity for a channel that has one, or the channel of a block
+    /// that is marked.
+    before: Option<Vec<u8>>,
     pub bits: Vec<u8>,
+    /// What stands behind them: the block that is marked and its count.
+    pub behind: Vec<Vec<u8>>,
     /// Digits that are refused among the bits.
     wrong_digits: &'static [u8],
 }
@@ -21,16 +24,26 @@ impl Request {
     pub fn of_received(word: &str, bits: Vec<u8>) -> Request {
         Request {
             word: word.as_bytes().to_vec(),
-            identity: None,
+            before: None,
             bits,
+            behind: Vec::new(),
             wrong_digits: fields::WRONG_WHERE_RECEIVED,
+        }
+    }
+
+    /// A block and its count to be marked for the received bits of a channel.
+    pub fn marking(channel: &Channel, bits: Vec<u8>, u: Vec<u8>, count: Vec<u8>) -> Request {
+        Request {
+            before: Some(channel.name.as_bytes().to_vec()),
+            behind: vec![u, count],
+            ..Request::of_received("mark", bits)
         }
     }
 
     /// A block to be received; the identity is left out where the channel has none.
     pub fn receiving(channel: &Channel, identity: Vec<u8>, bits: Vec<u8>) -> Request {
         Request {
-            identity: channel.has_identity.then_some(identity),
+            before: channel.has_identity.then_some(identity),
             ..Request::of_received(&format!("{}?", channel.name), bits)
         }
     }
@@ -44,14 +57,15 @@ impl Request {
         }
     }
 
-    /// The same under another identity; nothing changes for a channel that has none.
-    fn set_identity(&mut self, identity: Vec<u8>) {
-        self.identity = self.identity.take().map(|_| identity);
+    /// The same with something else before the bits; nothing changes where nothing stands there.
+    pub fn set_before(&mut self, other: Vec<u8>) {
+        self.before = self.before.take().map(|_| other);
     }
 
     /// The arguments in their order.
     pub fn arguments(&self) -> Vec<&[u8]> {
-        let in_order = self.identity.iter().chain(Some(&self.bits));
+        let in_order = self.before.iter().chain(Some(&self.bits));
+        let in_order = in_order.chain(&self.behind);
         in_order.map(|argument| &argument[..]).collect()
     }
 
@@ -93,7 +107,7 @@ impl Request {
 
     /// Refusal 3: an identity over 63.
     pub fn high_identity(mut self, random: &mut Random) -> Vec<u8> {
-        self.set_identity(fields::high_identity(random));
+        self.set_before(fields::high_identity(random));
         self.line()
     }
 
@@ -107,14 +121,14 @@ impl Request {
             self.spoil(random);
         }
         if right_part != 3 {
-            self.set_identity(fields::high_identity(random));
+            self.set_before(fields::high_identity(random));
         }
         self.line()
     }
 
     /// A bad number for the identity; the bits are right, wrong or too many.
     pub fn bad_number(mut self, random: &mut Random) -> Vec<u8> {
-        self.set_identity(fields::no_number(random));
+        self.set_before(fields::no_number(random));
         match random.below(6) {
             0 => self.spoil(random),
             1 => self.bits.push(b'0'),
@@ -134,7 +148,7 @@ impl Request {
     }
 
     /// Too few or too many arguments, or spaces where none belong; `access` begins a line that
-    /// wants an identity.
+    /// wants an identity, or more than the bits.
     pub fn wrong_fields(self, random: &mut Random, access: &[u8]) -> Vec<u8> {
         let (word, line) = (&self.word[..], self.line());
         let identity = fields::good_identity(random);
@@ -201,6 +215,9 @@ mod tests {
         }
         let view = Request::of_received("trellis", b"11".to_vec());
         assert_eq!(view.line(), b"trellis 11");
+        let [bits, u, count] = [b"01", b"10", b"07"].map(|field| field.to_vec());
+        let marked = Request::marking(&ACCESS, bits, u, count);
+        assert_eq!(marked.line(), b"mark access 01 10 07");
     }
 
     #[test]
@@ -220,11 +237,11 @@ mod tests {
         for channel in CHANNELS {
             let mut request = Request::sending(&channel, b"7".to_vec(), b"01".to_vec());
             let before = request.line();
-            request.set_identity(b"64".to_vec());
+            request.set_before(b"64".to_vec());
             assert_eq!(request.line() != before, channel.has_identity);
         }
         let mut access = Request::sending(&ACCESS, b"7".to_vec(), b"01".to_vec());
-        access.set_identity(b"64".to_vec());
+        access.set_before(b"64".to_vec());
         assert_eq!(access.line(), b"access 64 01");
     }
 

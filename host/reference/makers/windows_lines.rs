@@ -3,8 +3,8 @@
 
 use crate::chance::random::Random;
 use crate::makers::{
-    each, efr_lines, fields, help_lines, lend_lines, lesson_lines, missing_lines, received_lines,
-    sent_lines, ties_lines, totals_lines, view_lines, whose_lines,
+    each, efr_lines, fields, help_lines, lend_lines, lesson_lines, mark_lines, missing_lines,
+    received_lines, sent_lines, ties_lines, totals_lines, view_lines, whose_lines,
 };
 use crate::page::MARK;
 
@@ -38,17 +38,18 @@ fn of_other_makers(random: &mut Random, count: usize) -> Vec<Vec<u8>> {
 
 /// So many lines of one of the other makers.
 fn of_another_maker(random: &mut Random, number: usize) -> Vec<Vec<u8>> {
-    match random.below(13) {
-        0..=2 => lesson_lines::lessons(random, number),
-        3 => lend_lines::lines(random, number),
-        4 => help_lines::lines(random, number),
-        5 => totals_lines::lines(random, number),
-        6 => ties_lines::lines(random, number),
-        7 => missing_lines::lines(random, number),
-        8 => each(random, number, sent_lines::line),
-        9 => each(random, number, received_lines::line),
-        10 => each(random, number, efr_lines::line),
-        11 => whose_lines::lines(random, number),
+    match random.below(15) {
+        0..=3 => lesson_lines::lessons(random, number),
+        4 => lend_lines::lines(random, number),
+        5 => help_lines::lines(random, number),
+        6 => totals_lines::lines(random, number),
+        7 => ties_lines::lines(random, number),
+        8 => missing_lines::lines(random, number),
+        9 => each(random, number, sent_lines::line),
+        10 => each(random, number, received_lines::line),
+        11 => each(random, number, efr_lines::line),
+        12 => whose_lines::lines(random, number),
+        13 => each(random, number, mark_lines::line),
         _ => each(random, number, view_lines::line),
     }
 }
@@ -193,12 +194,11 @@ mod tests {
     fn lines_between_are_refused_or_not_understood() {
         let mut random = Random::new(151);
         let plain = of_other_makers(&mut random, 3000);
-        let lines: Vec<Vec<u8>> = plain
-            .iter()
-            .map(|line| between(&mut random, line))
-            .collect();
+        // A mark before the first line would be passed over.
+        let mut lines = vec![b"fresh".to_vec()];
+        lines.extend(plain.iter().map(|line| between(&mut random, line)));
         let expected = ["?", "refused 1", "refused 2"];
-        for answer in answers(&lines) {
+        for answer in &answers(&lines)[1..] {
             // A lent buffer may follow.
             let words: Vec<&str> = answer.split(' ').take(2).collect();
             assert!(expected.contains(&&words.join(" ")[..]), "{}", answer);

@@ -123,8 +123,13 @@ pub static CHANNELS: [Channel; 6] = [SPEECH, CONTROL, SACCH, ACCESS, SCH, EFR];
 
 /// The channel of this name; nothing if there is none.
 pub fn named(name: &[u8]) -> Option<&'static Channel> {
+    named_among(&CHANNELS, name)
+}
+
+/// The one of these channels that has this name; nothing if there is none.
+pub fn named_among(channels: &'static [Channel], name: &[u8]) -> Option<&'static Channel> {
     let is_named = |channel: &&Channel| channel.name.as_bytes() == name;
-    CHANNELS.iter().find(is_named)
+    channels.iter().find(is_named)
 }
 
 impl Channel {

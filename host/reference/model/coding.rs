@@ -17,6 +17,18 @@ pub fn convolve(u: &[u8]) -> Vec<u8> {
     c
 }
 
+/// u where nothing is repaired: u(k) = c(2k) + u(k-3) + u(k-4), with u(k) = 0 for k < 0; a missing bit
+/// counts as 0
+pub fn unrepaired(c: &[u8]) -> Vec<u8> {
+    let mut u: Vec<u8> = Vec::new();
+    for k in 0..c.len() / 2 {
+        let before = |steps: usize| if k < steps { 0 } else { u[k - steps] };
+        let sum = c[2 * k] + before(3) + before(4);
+        u.push(sum % 2);
+    }
+    u
+}
+
 /// b(0) is the highest bit of the identity, b(5) the lowest
 fn identity_bits(identity: u64) -> Vec<u8> {
     let values = [32, 16, 8, 4, 2, 1];
@@ -72,8 +84,11 @@ pub fn block(channel: &Channel, identity: u64, d: &[u8]) -> Vec<u8> {
 #[cfg(test)]
 mod tests {
     use super::*;
+    use crate::chance::lists::random_bits;
+    use crate::chance::random::Random;
     use crate::model::bits::ones_at;
     use crate::model::channel::{ACCESS, NO_IDENTITY, SPEECH};
+    use crate::model::missing::MISSING;
 
     /// The colour bits of an access request.
     fn access_colour(identity: u64, d: &[u8]) -> Vec<u8> {
@@ -165,5 +180,23 @@ mod tests {
             convolve(&[1, 0, 0, 0, 0, 0]),
             [1, 1, 0, 1, 0, 0, 1, 1, 1, 1, 0, 0]
         );
+    }
+
+    #[test]
+    fn what_was_not_altered_needs_no_repair() {
+        let u = random_bits(&mut Random::new(320), 100);
+        let mut c = convolve(&u);
+        assert_eq!(unrepaired(&c), u);
+        // The second bit of a pair is not looked at.
+        for bit in c.iter_mut().skip(1).step_by(2) {
+            *bit = MISSING;
+        }
+        assert_eq!(unrepaired(&c), u);
+    }
+
+    #[test]
+    fn a_missing_first_bit_counts_as_0() {
+        assert_eq!(unrepaired(&[2, 1, 1, 1, 2, 0]), [0, 1, 0]);
+        assert_eq!(unrepaired(&[1, 1, 0, 0, 0, 0, 2, 1]), [1, 0, 0, 1]);
     }
 }

@@ -48,7 +48,7 @@ fn nearest_survivor(received: &[u8]) -> Survivor {
 #[cfg(test)]
 mod tests {
     use super::*;
-    use crate::chance::lists;
+    use crate::chance::lists::{self, candidate};
     use crate::chance::losses;
     use crate::chance::random::Random;
     use crate::model::bits::inverted;
@@ -56,24 +56,13 @@ mod tests {
 
     /// The number of candidates that have the fewest disagreements.
     fn equals(received: &[u8], n: usize) -> usize {
-        let fewest = nearest_of_all(received).count;
-        let pairs = Pairs::of(received);
-        (0..1 << (n - 4))
-            .filter(|&number| pairs.disagreements(number) == fewest)
-            .count()
+        Pairs::of(received).nearest(n).len()
     }
 
     /// Both methods answer the same.
     fn both_agree(received: &[u8]) {
         let (one, other) = (nearest_of_all(received), nearest_survivor(received));
         assert_eq!(one, other, "{:?}", received);
-    }
-
-    /// A random candidate of n bits.
-    fn candidate(random: &mut Random, n: usize) -> Vec<u8> {
-        let mut u = lists::random_bits(random, n);
-        u[n - 4..].fill(0);
-        u
     }
 
     /// A list midway between two coded candidates.

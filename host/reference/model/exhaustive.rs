@@ -53,6 +53,15 @@ impl Pairs {
         let odd = u ^ (u << 1) ^ (u << 3) ^ (u << 4);
         (self.even.disagreements(even) + self.odd.disagreements(odd)) as usize
     }
+
+    /// All candidates of n bits that have the fewest disagreements.
+    pub fn nearest(&self, n: usize) -> Vec<u64> {
+        let candidates = 0..1_u64 << (n - 4);
+        let fewest = candidates.clone().map(|u| self.disagreements(u)).min();
+        candidates
+            .filter(|&u| Some(self.disagreements(u)) == fewest)
+            .collect()
+    }
 }
 
 #[cfg(test)]
@@ -91,5 +100,14 @@ mod tests {
     fn nothing_disagrees_where_all_is_missing() {
         let pairs = Pairs::of(&[MISSING; 36]);
         assert!((0..1 << 18).all(|u| pairs.disagreements(u) == 0));
+        assert_eq!(pairs.nearest(18).len(), 1 << 14);
+    }
+
+    #[test]
+    fn all_that_tie_are_the_nearest() {
+        // Midway between zeros and 11, whose pairs are 11 10 01 11 00 11, each disagrees in four places.
+        let pairs = Pairs::of(&[1, 0, 1, 0, 0, 0, 0, 1, 0, 0, 1, 0]);
+        assert_eq!(pairs.nearest(6), [0b00, 0b11]);
+        assert_eq!(Pairs::of(&[0; 12]).nearest(6), [0b00]);
     }
 }

@@ -10,6 +10,7 @@ pub mod efr;
 pub mod efr_order;
 pub mod exhaustive;
 pub mod kind;
+pub mod marking;
 pub mod missing;
 pub mod polynomial;
 pub mod receiving;

@@ -36,7 +36,7 @@ mod tests {
     use crate::chance::losses::lose_some;
     use crate::chance::random::Random;
     use crate::model::bits::bits_of;
-    use crate::model::coding::convolve;
+    use crate::model::coding::{convolve, unrepaired};
     use crate::model::refusal::Refusal::*;
 
     /// A burst that is sent for an identity.
@@ -122,17 +122,6 @@ mod tests {
         // The zeros of identity 63 with bits 0, 1, 3, 6 set are nearer to it.
         let four_set = [&[1, 1, 0, 1, 0, 0, 1][..], &[0; 29]].concat();
         assert_eq!(whose(&four_set), Ok((35, 3)));
-    }
-
-    /// u where nothing is repaired: u(k) = c(2k) + u(k-3) + u(k-4), with u(k) = 0 for k < 0
-    fn unrepaired(e: &[u8]) -> Vec<u8> {
-        let mut u: Vec<u8> = Vec::new();
-        for k in 0..18 {
-            let before = |steps: usize| if k < steps { 0 } else { u[k - steps] };
-            let sum = e[2 * k] + before(3) + before(4);
-            u.push(sum % 2);
-        }
-        u
     }
 
     #[test]

@@ -26,7 +26,7 @@ use Rattle.coder.specs.laws.Restored.{coloured, coloured-candidate, rest
 use Rattle.coder.specs.laws.SpeechRestored.{speech-candidate, speech-bits, speech-count, speech-good}
 
 -- ---- what is sent is d with its parity bits, to which a colour is added, coded; no colour is colour 0
-plain : (g d : List ℕ) → Bits d → d ++ (parity g d ++ zeros 4) ≡ coloured g (digits (length g) 0) d
+pub plain : (g d : List ℕ) → Bits d → d ++ (parity g d ++ zeros 4) ≡ coloured g (digits (length g) 0) d
 unfolding coloured
 plain g d bd =
     ap (λ (p : List ℕ). d ++ (p ++ zeros 4))

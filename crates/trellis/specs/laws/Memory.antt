@@ -6,8 +6,8 @@ use Prim.Native.Nat.{ℕ, zero, suc, _+_, _-_, _*_, _/_, _%_, _^_, _≤_, _<_, m
 use native.Mathlib.Numerals.{add-one}
 use native.Mathlib.Omega.{arith}
 use lib.Dec.{ltb}
-use lib.ListN.{length, getD, take, drop, set, length-set, length-reverse}
-use lib.Seq.{append-snoc, take-at, drop-cons, drop-set-lt, getD-set-same, getD-set-other}
+use lib.ListN.{length, getD, drop, set, length-set}
+use lib.Seq.{append-snoc, drop-cons, drop-set-lt, getD-set-same, getD-set-other}
 use borrow.Author.Count.{below-more}
 use Rattle.bits.specs.Bits.{Symbols, pick, tab, tabFrom, value, differ}
 use Rattle.bits.specs.laws.Tab.{at-tab, tab-same, length-tab, bits-tab}
@@ -42,10 +42,14 @@ module _ (r : List ℕ) (t : ℕ) (w : List ℕ) (ew : w ≡ tab 16 (costInto (g
   unfolding chosenAt choice
   chosen-same s h = rw (way-same s 0 h (omega arith), way-same s 1 h (omega arith))
 
--- ---- before the first pair: state 0 has 0, no bits end in the others
-pub row-first : (r : List ℕ) → 0 ∷ 65535 ∷ 65535 ∷ 65535 ∷ 65535 ∷ 65535 ∷ 65535 ∷ 65535 ∷ 65535 ∷ 65535 ∷ 65535 ∷ 65535 ∷ 65535 ∷ 65535 ∷ 65535 ∷ 65535 ∷ [] ≡ row r 0
+-- ---- before the first pair: state 0 has 0, no bits end in the others, whatever is received
+pub row-first : 0 ∷ 65535 ∷ 65535 ∷ 65535 ∷ 65535 ∷ 65535 ∷ 65535 ∷ 65535 ∷ 65535 ∷ 65535 ∷ 65535 ∷ 65535 ∷ 65535 ∷ 65535 ∷ 65535 ∷ 65535 ∷ [] ≡ row [] 0
 unfolding row rowAt best tab tabFrom
-row-first r = refl
+row-first = refl
+
+pub row-none : (r : List ℕ) → row [] 0 ≡ row r 0
+unfolding row rowAt best
+row-none r = refl
 
 -- ---- a choice is found again in its bit
 word-bit : (f : ℕ → ℕ) → ((i : ℕ) → f i ≤ 1) → (s : ℕ) → s < 16 → value (tab 16 f) / 2 ^ (15 - s) % 2 ≡ f s

@@ -5,7 +5,7 @@ use Prim.Native.Nat.{ℕ, _+_, _-_, _*_, _≤_}
 use native.Mathlib.Omega.{arith}
 use lib.ListN.{length, getD, length-set}
 use Rattle.trellis.specs.Nearest as spec
-use Rattle.trellis.specs.laws.Memory.{Remembers, remembers-none, remembers-more, row-first, row-more, costs-of}
+use Rattle.trellis.specs.laws.Memory.{Remembers, remembers-none, remembers-more, row-none, row-more, costs-of}
 use borrow.Author.Needs.{needs}
 use Rattle.trellis.proofs.search.search.Statement.{statement}
 use Rattle.trellis.proofs.search.search.Tie as tie
@@ -18,14 +18,14 @@ abbrev μ-loop : tie.MeasureT-loop
 
 loop-holds : tie.Need-loop-holds Inv-loop μ-loop
 loop-holds c =
-    let start = c .before .before .before in
-    (search needs, start .pre .2, row-first (start .args .c .now), remembers-none (start .args .c .now) (start .args .memory .now))
+    let start = c .before .before .before .before in
+    (search needs, start .pre .2, c .first-row .ensures ∙ row-none (start .args .c .now), remembers-none (start .args .c .now) (start .args .memory .now))
 
 loop-again : tie.Need-loop-again Inv-loop μ-loop
 loop-again c =
-    let start = c .before .before .before .before .before .before .before .before .before .before .before in
+    let start = c .before .before .before .before .before .before .before .before .before .before .before .before in
     let l = c .before .before .before .before .before .before .before .loop in
-    let all = c .before .before .before .before .before .before .before .before .all-costs in
+    let all = c .before .before .before .before .before .before .before .before .before .all-costs in
     let at = c .before .before .before .cost-place in
     let r = start .args .c .now in
     let w : List ℕ = getD (all .result) (at .result) [] in
@@ -38,7 +38,7 @@ loop-again c =
 
 returns : tie.Need-returns Inv-loop μ-loop
 returns c =
-    let start = c .before .before .before .before .before in
+    let start = c .before .before .before .before .before .before in
     let l = c .before .loop in
     let r = start .args .c .now in
     let e : l .k ≡ start .args .n = omega arith in
@@ -51,13 +51,14 @@ search-spec =
     Inv-loop
     μ-loop
     (λ c κs. search needs)
+    (λ c κs. search needs)
     loop-holds
     (λ c. search needs)
     (λ c. search needs)
     (λ c. search needs)
     (λ c. search needs)
     (λ c. search needs)
-    (λ c κs. let b = c .before .before .before .before .before .before .before .pre .3 in let k = c .before .before .before .loop .k in (b (2 * k), b (2 * k + 1)))
+    (λ c κs. let b = c .before .before .before .before .before .before .before .before .pre .3 in let k = c .before .before .before .loop .k in (b (2 * k), b (2 * k + 1)))
     (λ c. search needs)
     (λ c. search needs)
     (λ c κs. search needs)

@@ -8,7 +8,7 @@ use Rattle.words.proofs.print.put_numbers.Statement.{statement}
 use Rattle.words.proofs.print.put_numbers.Tie as tie
 
 abbrev Inv-loop : tie.InvT-loop
-Inv-loop out₀ n count numbers m₀ k₀ out m k = (k ≤ 16) × (m ≤ 8 + 21 * k) × (1000 ≤ length out) × (length out ≡ length out₀)
+Inv-loop out₀ n count numbers m₀ k₀ out m k = (k ≤ 16) × (m ≤ 17 + 21 * k) × (1000 ≤ length out) × (length out ≡ length out₀)
 
 abbrev μ-loop : tie.MeasureT-loop
 μ-loop out₀ n count numbers m₀ k₀ out m k = 16 - k

@@ -1,0 +1,3 @@
+pub mod Marks
+pub mod Fair
+pub mod laws
