@@ -1,5 +1,5 @@
 # 01's handbook examples that are run and not proved, that of the flags as 02 has it (M-101), what 02 says of missing bits (M-102), of enhanced
-# full rate (M-103), of the identity that a burst names (M-105), of bursts lost by class (M-108) and of marks (M-111), and what the table of refusals says of a lent buffer, as kit lines:
+# full rate (M-103), of the identity that a burst names (M-105), of bursts lost by class (M-108), of marks (M-111) and of the hub (M-112), and what the table of refusals says of a lent buffer, as kit lines:
 # LINE => ANSWER, the answers typed from the papers. Sourced, by POSIX sh.
 
 sevens() { zeros "$1" | tr 0 7; } # COUNT
@@ -191,6 +191,102 @@ mark_lines() {
     for count in 65536 000000 -1 x; do say "mark access $(zeros 36) $(zeros 18) $count => ?"; done
     # it writes nothing, and is lent nothing
     say "lend 8 7 mark access $(zeros 36) $(zeros 18) 0 => ?"
+}
+
+# The burst of an identity for eight zeros. Their parity is 111111, so that the colour bits u(8)..u(13) are those of the identity turned over, its highest bit first.
+of_zeros() { # IDENTITY
+    awk -v identity="$1" 'BEGIN {
+        for (k = 8; k <= 13; k++) u[k] = 1 - int(identity / 2 ^ (13 - k)) % 2
+        for (k = 0; k <= 17; k++) printf "%d%d", (u[k] + u[k - 3] + u[k - 4]) % 2, (u[k] + u[k - 1] + u[k - 3] + u[k - 4]) % 2
+    }'
+}
+
+# The hub. 36 zeros are for identity 63, and so is what is all missing; with bits 0, 1, 3, 6 set they are for 35 (whose_lines). An altered bit weighs twice as much as a missing
+# one, and a weight of six is borne.
+hub_lines() {
+    say "fresh => fresh"
+    four_set=1101001$(zeros 29)
+    # identity 7 for 01101001
+    of_seven=001110010001110010001100010011110000
+    # no one is there; what has a wrong length or wrong bytes is refused for that
+    for bits in "$(zeros 36)" "$(twos 36)" "$of_seven"; do say "hear $bits => refused 17"; done
+    for bits in '' "$(zeros 35)" "$(zeros 37)" "$(zeros 34)3"; do say "hear $bits => refused 1"; done
+    say "hear $(zeros 35)3 => refused 2"
+    for place in 0 29 30 65535; do say "remove $place => refused 16"; done
+    for identity in 64 65535; do say "enrol $identity => refused 3"; done
+    say "enrol 12 => 0"
+    say "enrol 63 => 1"
+    for bits in "$(zeros 36)" "$(twos 36)" "$(twos 6)$(zeros 30)"; do say "hear $bits => 1 0 $(zeros 8)"; done
+    say "hear 1$(twos 4)$(zeros 31) => 1 1 $(zeros 8)"
+    say "hear 111$(zeros 33) => 1 3 $(zeros 8)"
+    say "hear $four_set => refused 17"
+    say "enrol 35 => 2"
+    say "hear $four_set => 2 3 1$(zeros 7)"
+    say "enrol 7 => 3"
+    say "hear $of_seven => 3 0 01101001"
+    # its third bit, its eighteenth and its thirty-first altered; six missing; one altered and four missing, two and two
+    say "hear 000110010001110011001100010011010000 => 3 3 01101001"
+    say "hear $(twos 6)${of_seven#??????} => 3 0 01101001"
+    say "hear 1$(twos 4)${of_seven#?????} => 3 1 01101001"
+    say "hear 11$(twos 2)${of_seven#????} => 3 2 01101001"
+    for identity in 7 00063; do say "enrol $identity => refused 14"; done
+    # who is removed is heard no more, and the others are
+    say "remove 1 => removed"
+    for bits in "$(zeros 36)" "$(twos 36)"; do say "hear $bits => refused 17"; done
+    say "remove 1 => refused 16"
+    say "hear $of_seven => 3 0 01101001"
+    # of the freed places the smallest is used first, and who comes back is heard there
+    for place in 3 0; do say "remove $place => removed"; done
+    say "enrol 63 => 0"
+    say "hear $(zeros 36) => 0 0 $(zeros 8)"
+    say "hear $of_seven => refused 17"
+    say "enrol 12 => 1"
+    say "enrol 7 => 3"
+    say "hear $of_seven => 3 0 01101001"
+    say "enrol 0 => 4"
+    say "hear 000000000000000011101001101001000011 => 4 0 $(zeros 8)"
+    say "fresh => fresh"
+    say "hear $(zeros 36) => refused 17"
+    say "remove 0 => refused 16"
+    # thirty come, and then there is no place; who stands there is refused for that, and over 63 for that, though the lowest bits of 127 and of 319 are those of 63
+    identity=63
+    while [ "$identity" -ge 34 ]; do
+        say "enrol $identity => $((63 - identity))"
+        identity=$((identity - 1))
+    done
+    for identity in 33 7 0; do say "enrol $identity => refused 15"; done
+    for identity in 63 34; do say "enrol $identity => refused 14"; done
+    for identity in 64 127 319; do say "enrol $identity => refused 3"; done
+    for identity in 63 62 48 34; do say "hear $(of_zeros $identity) => $((63 - identity)) 0 $(zeros 8)"; done
+    for identity in 33 0; do say "hear $(of_zeros $identity) => refused 17"; done
+    for place in 29 17; do say "remove $place => removed"; done
+    for place in 30 256; do say "remove $place => refused 16"; done
+    say "enrol 63 => refused 14"
+    say "enrol 7 => 17"
+    say "enrol 33 => 29"
+    say "enrol 0 => refused 15"
+    say "hear $of_seven => 17 0 01101001"
+    say "hear $(of_zeros 33) => 29 0 $(zeros 8)"
+    for identity in 34 46; do say "hear $(of_zeros $identity) => refused 17"; done
+    # 8 bytes are lent, and a refusal leaves them
+    say "lend 8 7 hear $(zeros 36) => 0 0 $(zeros 8)"
+    say "lend 8 7 hear $(of_zeros 34) => refused 17 $(sevens 8)"
+    for bits in "$(zeros 36)" "$(zeros 35)3"; do say "lend 9 7 hear $bits => refused 1 $(sevens 9)"; done
+    say "lend 0 7 hear $(zeros 36) => refused 1 -"
+    say "lend 8 7 hear $(zeros 35)3 => refused 2 $(sevens 8)"
+    say "lend 8 7 hear  => refused 1 $(sevens 8)"
+    # enrol and remove write nothing, and are lent nothing; what is not understood leaves the hub
+    for line in 'enrol 5' 'remove 0'; do say "lend 8 7 $line => ?"; done
+    for line in 'enrol' 'enrol ' 'enrol 5 5' 'enrol x' 'enrol 65536' 'remove' 'remove 0 0' 'remove x' 'remove 65536' 'hear' "hear 63 $(zeros 36)"; do say "$line => ?"; done
+    say "hear $(zeros 36) => 0 0 $(zeros 8)"
+    say "remove 0 => removed"
+    say "hear $(zeros 36) => refused 17"
+    say "why 14 => the identity stands at a place of the hub already"
+    say "why 15 => all 30 places of the hub are in use"
+    say "why 16 => the place is empty, or over 29"
+    say "why 17 => no identity at the hub accepts the burst"
+    for number in 11 12 13; do say "why $number => ?"; done
+    say "fresh => fresh"
 }
 
 # The bursts of a stream of one block.

@@ -97,7 +97,7 @@ static inline uint32_t desk_count(uint32_t answer)
 
 /*
  * The reason of a number in words, those of the table of refusals in README.md; never null. It knows the numbers of the streams too,
- * 4 to 7 and 9, and 10, of enhanced full rate, which the calls below never give and the kit does.
+ * 4 to 7 and 9, 10, of enhanced full rate, and those of the hub, 14 to 17, which the calls below never give and the kit does.
  */
 static inline const char *desk_reason(uint32_t number)
 {
@@ -124,6 +124,14 @@ static inline const char *desk_reason(uint32_t number)
         return "as many flags are 1 as are 0, and the parity is bad as FACCH and as speech";
     case 10:
         return "the parity of enhanced full rate is good and its CRC is bad";
+    case 14:
+        return "the identity stands at a place of the hub already";
+    case 15:
+        return "all 30 places of the hub are in use";
+    case 16:
+        return "the place is empty, or over 29";
+    case 17:
+        return "no identity at the hub accepts the burst";
     default:
         return "no refusal has this number";
     }

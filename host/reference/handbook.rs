@@ -74,7 +74,7 @@ mod tests {
         let words = words().join(" ");
         let expected = "speech control sacch access sch efr \
             speech? control? sacch? access? sch? efr? whose mark \
-            send end take totals fresh lend trellis help why";
+            send end take totals enrol remove hear fresh lend trellis help why";
         assert_eq!(words, expected);
     }
 
@@ -108,7 +108,15 @@ mod tests {
                     bits R, 2 for a missing one, is nearer than the block U, which disagrees in COUNT \
                     places; or no, and what is wrong first: length, tail, count or fewest";
         assert_eq!(help(b"mark").as_deref(), Some(mark));
-        let fresh = "fresh: fresh; both streams begin anew";
+        let enrol = "enrol ID: PLACE, 0 to 29: the smallest free place of the hub, \
+                     at which the identity ID then stands";
+        assert_eq!(help(b"enrol").as_deref(), Some(enrol));
+        let remove = "remove PLACE: removed; the place is free again";
+        assert_eq!(help(b"remove").as_deref(), Some(remove));
+        let hear = "hear R: of 36 received bits, 2 for a missing one, PLACE, COUNT and the 8 bits \
+                    of the nearest block, for the place whose identity accepts them";
+        assert_eq!(help(b"hear").as_deref(), Some(hear));
+        let fresh = "fresh: fresh; both streams and the hub begin anew";
         assert_eq!(help(b"fresh").as_deref(), Some(fresh));
     }
 
@@ -122,8 +130,9 @@ mod tests {
     }
 
     #[test]
-    fn the_ten_refusals_are_told_in_words() {
-        let told: Vec<String> = (1..=10).map(|refusal| why(refusal).unwrap()).collect();
+    fn the_fourteen_refusals_are_told_in_words() {
+        let numbers = (1..=10).chain(14..=17);
+        let told: Vec<String> = numbers.map(|refusal| why(refusal).unwrap()).collect();
         let expected = [
             "a buffer has the wrong length",
             "a bit is neither 0 nor 1, nor 2 for missing on reception",
@@ -135,10 +144,14 @@ mod tests {
             "the parity is bad",
             "as many flags are 1 as are 0, and the parity is bad as FACCH and as speech",
             "the parity of enhanced full rate is good and its CRC is bad",
+            "the identity stands at a place of the hub already",
+            "all 30 places of the hub are in use",
+            "the place is empty, or over 29",
+            "no identity at the hub accepts the burst",
         ];
         assert_eq!(told, expected);
-        assert_eq!(refusals().len(), 10);
-        for number in [0, 11, 19, 90, 100, 257, 65_535] {
+        assert_eq!(refusals().len(), 14);
+        for number in [0, 11, 12, 13, 18, 19, 90, 100, 257, 270, 65_535] {
             assert_eq!(why(number), None, "{}", number);
         }
     }

@@ -1,9 +1,10 @@
 //! The kit's line protocol: a word and its arguments, parted by single spaces. One sending and one
-//! receiving stream live through all of the lines.
+//! receiving stream live through all of the lines, and so does the hub.
 
 use crate::handbook;
 use crate::model::burst::FOUR_BURSTS;
-use crate::model::channel::{self, Received, NO_IDENTITY};
+use crate::model::channel::{self, Received, ACCESS, NO_IDENTITY};
+use crate::model::hub::{Heard, Hub};
 use crate::model::marking::{self, Mark};
 use crate::model::receiving_stream::{Receiver, Taken, Totals, LENT_TO_TAKE};
 use crate::model::refusal::Refusal;
@@ -86,6 +87,23 @@ fn totalled(totals: Totals) -> Told {
     Told::words(numbers.map(|number| number.to_string()).join(" "))
 }
 
+/// The place that an identity is given.
+fn enrolled(answer: Result<usize, Refusal>) -> Told {
+    told(answer, |place| Told::words(place.to_string()))
+}
+
+/// "removed".
+fn removed(answer: Result<(), Refusal>) -> Told {
+    told(answer, |_| Told::words("removed".to_string()))
+}
+
+/// The place, the count and the bits.
+fn heard(answer: Heard) -> Told {
+    told(answer, |(place, count, d)| {
+        Told::new(format!("{} {}", place, count), d)
+    })
+}
+
 /// The answer of a channel's two verbs: its name sends a block, with a question mark behind it a
 /// block is received. The identity comes first where the channel has one.
 fn of_channel(word: &[u8], arguments: &[&[u8]], lent: Option<usize>) -> Option<Told> {
@@ -102,18 +120,20 @@ fn of_channel(word: &[u8], arguments: &[&[u8]], lent: Option<usize>) -> Option<T
     })
 }
 
-/// The kit: its sending and its receiving stream.
+/// The kit: its sending and its receiving stream, and the hub.
 pub struct Kit {
     sender: Sender,
     receiver: Receiver,
+    hub: Hub,
 }
 
 impl Kit {
-    /// Both streams are fresh.
+    /// Both streams and the hub are fresh.
     pub fn fresh() -> Kit {
         Kit {
             sender: Sender::fresh(),
             receiver: Receiver::fresh(),
+            hub: Hub::fresh(),
         }
     }
 
@@ -152,6 +172,7 @@ impl Kit {
                 let lent = lent.unwrap_or(LENT_TO_TAKE);
                 taken(self.receiver.take(number(burst)?, &bits(e), lent))
             }
+            [b"hear", e] => heard(self.hub.hear(&bits(e), lent.unwrap_or(ACCESS.reads))),
             [word, arguments @ ..] => of_channel(word, arguments, lent)?,
             [] => return None,
         })
@@ -170,6 +191,8 @@ impl Kit {
                 Some(marked(answer))
             }
             [b"totals"] => Some(totalled(self.receiver.totals())),
+            [b"enrol", identity] => Some(enrolled(self.hub.enrol(number(identity)?.into()))),
+            [b"remove", place] => Some(removed(self.hub.remove(number(place)?.into()))),
             [b"fresh"] => {
                 *self = Kit::fresh();
                 Some(Told::words("fresh".to_string()))
@@ -348,6 +371,7 @@ mod tests {
             ("control? ", ""),
             ("efr? ", ""),
             ("whose ", ""),
+            ("hear ", ""),
             ("mark sch ", " 1 1"),
             ("mark sch 1 ", " 1"),
             ("trellis ", ""),
@@ -373,11 +397,14 @@ mod tests {
             ("send ", "refused 1"),
             ("take 0 ", "refused 1"),
             ("take 1 ", "refused 1"),
+            ("hear ", "refused 1"),
             ("mark access  {0*18} 0", "refused 1"),
             ("mark access   0", "refused 1"),
             ("mark access {0*36}  0", "no length"),
-            // The identity is empty here, and no number; then the channel and the count.
+            // The identity is empty here, and no number; then the place, the channel and the count.
             ("access  00000000", "?"),
+            ("enrol ", "?"),
+            ("remove ", "?"),
             ("mark  {0*36} {0*18} 0", "?"),
             ("mark access {0*36} {0*18} ", "?"),
         ]);
@@ -1096,14 +1123,17 @@ mod tests {
             "trellis 11",
             "whose {0*36}",
             "mark access {0*36} {0*18} 0",
+            "enrol 63",
+            "hear {0*36}",
             "Fresh",
             send,
+            "remove 0",
             "end ",
             "",
             second,
             "end",
         ]);
-        let kept = [0, 2, 7, 10, 11].map(|k| between[k].clone());
+        let kept = [0, 2, 9, 13, 14].map(|k| between[k].clone());
         assert_eq!(kept[..], alone[..]);
     }
 
@@ -1325,9 +1355,18 @@ mod tests {
         let channels = CHANNELS.map(|channel| channel.name.to_string());
         let asked = CHANNELS.map(|channel| format!("{}?", channel.name));
         let of_nearest = ["whose", "mark"].map(String::from);
-        let of_streams = ["send", "end", "take", "totals", "fresh"].map(String::from);
-        let others = ["lend", "trellis", "help", "why"].map(String::from);
-        [&channels[..], &asked, &of_nearest, &of_streams, &others].concat()
+        let of_streams = ["send", "end", "take", "totals"].map(String::from);
+        let of_hub = ["enrol", "remove", "hear"].map(String::from);
+        let others = ["fresh", "lend", "trellis", "help", "why"].map(String::from);
+        [
+            &channels[..],
+            &asked,
+            &of_nearest,
+            &of_streams,
+            &of_hub,
+            &others,
+        ]
+        .concat()
     }
 
     #[test]
@@ -1340,7 +1379,7 @@ mod tests {
         let fill_in = |field| match field {
             "WORD" | "LINE" => "end",
             "CHANNEL" => "access",
-            "ID" | "N" | "B" | "D" | "E" | "R" | "U" | "COUNT" => "1",
+            "ID" | "PLACE" | "N" | "B" | "D" | "E" | "R" | "U" | "COUNT" => "1",
             word => word,
         };
         let fields: Vec<&str> = line.split(' ').map(fill_in).collect();
@@ -1388,12 +1427,20 @@ mod tests {
                 "why 10",
                 "the parity of enhanced full rate is good and its CRC is bad",
             ),
+            (
+                "why 14",
+                "the identity stands at a place of the hub already",
+            ),
+            ("why 015", "all 30 places of the hub are in use"),
+            ("why 16", "the place is empty, or over 29"),
+            ("why 00017", "no identity at the hub accepts the burst"),
         ]);
     }
 
     #[test]
     fn why_has_the_number_of_a_refusal() {
-        not_understood(&["why", "why ", "why  ", "why 0", "why 00000", "why 11"]);
+        not_understood(&["why", "why ", "why  ", "why 0", "why 00000"]);
+        not_understood(&["why 11", "why 12", "why 13", "why 18", "why 19", "why 270"]);
         not_understood(&["why 259", "why 65535", "why 65536", "why 65539"]);
         not_understood(&["why 000003", "why x", "why -1", "why 3.", "why end"]);
         not_understood(&["why 3 3", "why 3 ", "why  3", " why 3", "why\t3"]);
@@ -1551,6 +1598,10 @@ mod tests {
             ("whose {0*35}1", "63 1"),
             ("mark access {0*35}1 {0*18} 1", "yes"),
             ("mark speech {0*456} {0*189} 1", "no count"),
+            ("enrol 63", "0"),
+            ("hear {0*35}1", "0 1 00000000"),
+            ("remove 0", "removed"),
+            ("hear {0*35}1", "refused 17"),
             ("fresh ", "?"),
             ("totals ", "?"),
             ("lend 260 7 totals", "?"),
@@ -1615,6 +1666,366 @@ mod tests {
         ]);
         let kept = [1, 3, 6, 8, 10].map(|k| between[k].clone());
         assert_eq!(kept[..], alone[..]);
+    }
+
+    /// Each line of one kit has its answer, in their order.
+    fn answered_in_turn(lines: &[(&str, &str)]) {
+        let mut kit = Kit::fresh();
+        for (line, expected) in lines {
+            let answer = kit.answer(full(line).as_bytes());
+            assert_eq!(answer, full(expected), "{}", line);
+        }
+    }
+
+    /// A kit at whose hub these identities are enrolled, from place 0 on.
+    fn with_enrolled(identities: &[usize]) -> Kit {
+        let mut kit = Kit::fresh();
+        for (place, identity) in identities.iter().enumerate() {
+            let answer = kit.answer(format!("enrol {}", identity).as_bytes());
+            assert_eq!(answer, place.to_string());
+        }
+        kit
+    }
+
+    /// Thirty identities, of which none is the number of its place.
+    fn thirty() -> Vec<usize> {
+        (0..30).map(|place| (7 * place + 5) % 64).collect()
+    }
+
+    #[test]
+    fn enrol_answers_the_smallest_free_place() {
+        answered_in_turn(&[
+            ("enrol 63", "0"),
+            ("enrol 0", "1"),
+            ("enrol 00007", "2"),
+            ("remove 0", "removed"),
+            ("remove 00001", "removed"),
+            ("enrol 12", "0"),
+            ("enrol 63", "1"),
+            ("enrol 0", "3"),
+        ]);
+    }
+
+    #[test]
+    fn hear_answers_the_place_the_count_and_the_bits() {
+        answered_in_turn(&[
+            ("hear {0*36}", "refused 17"),
+            ("enrol 12", "0"),
+            ("enrol 63", "1"),
+            ("enrol 7", "2"),
+            ("hear {0*36}", "1 0 {0*8}"),
+            ("hear {2*36}", "1 0 {0*8}"),
+            ("hear 111{0*33}", "1 3 {0*8}"),
+            // The nearest block has u(0) = 1 and the rest 0, and is for identity 35.
+            ("hear 1101001{0*29}", "refused 17"),
+            ("enrol 35", "3"),
+            ("hear 1101001{0*29}", "3 3 1{0*7}"),
+            // As sent, three altered, six missing, one altered and four missing.
+            ("hear 001110010001110010001100010011110000", "2 0 01101001"),
+            ("hear 000110010001110011001100010011010000", "2 3 01101001"),
+            ("hear 002112012001112010201100010011210000", "2 0 01101001"),
+            ("hear 000112012001112010201100010011110000", "2 1 01101001"),
+            ("remove 2", "removed"),
+            ("hear 001110010001110010001100010011110000", "refused 17"),
+            ("hear {0*36}", "1 0 {0*8}"),
+            // It comes back to another place.
+            ("remove 0", "removed"),
+            ("enrol 7", "0"),
+            ("hear 001110010001110010001100010011110000", "0 0 01101001"),
+        ]);
+    }
+
+    #[test]
+    fn thirty_bursts_go_to_thirty_places() {
+        let identities = thirty();
+        let mut kit = with_enrolled(&identities);
+        let others: Vec<usize> = (0..64).filter(|k| !identities.contains(k)).collect();
+        for identity in 0..64 {
+            let d = format!("{:08b}", 3 * identity);
+            let sent = answer_to(&format!("access {} {}", identity, d));
+            let mut altered = sent.into_bytes();
+            for k in 0..identity % 4 {
+                let bit = &mut altered[(identity + 11 * k) % 36];
+                *bit = b'0' + b'1' - *bit;
+            }
+            let answer = kit.answer(&[&b"hear "[..], &altered].concat());
+            match identities.iter().position(|&other| other == identity) {
+                Some(place) => assert_eq!(answer, format!("{} {} {}", place, identity % 4, d)),
+                None => assert_eq!(answer, "refused 17", "{}", identity),
+            }
+        }
+        assert_eq!(kit.answer(b"enrol 64"), "refused 3");
+        for other in others {
+            let answer = kit.answer(format!("enrol {}", other).as_bytes());
+            assert_eq!(answer, "refused 15");
+        }
+        for place in 0..30 {
+            let again = kit.answer(format!("enrol {}", identities[place]).as_bytes());
+            assert_eq!(again, "refused 14");
+            let removed = kit.answer(format!("remove {}", place).as_bytes());
+            assert_eq!(removed, "removed");
+        }
+        assert_eq!(kit.answer(b"enrol 1"), "0");
+    }
+
+    #[test]
+    fn enrol_refuses_3_then_14_then_15() {
+        let mut kit = with_enrolled(&[63, 7]);
+        for (identity, expected) in [(64, "3"), (319, "3"), (65_535, "3"), (63, "14"), (7, "14")] {
+            let answer = kit.answer(format!("enrol {}", identity).as_bytes());
+            assert_eq!(answer, format!("refused {}", expected));
+        }
+        let mut kit = with_enrolled(&thirty());
+        for (identity, expected) in [(64, "3"), (69, "3"), (261, "3"), (5, "14"), (0, "15")] {
+            let answer = kit.answer(format!("enrol {}", identity).as_bytes());
+            assert_eq!(answer, format!("refused {}", expected));
+        }
+    }
+
+    #[test]
+    fn remove_refuses_an_empty_place_and_one_over_29() {
+        let mut kit = with_enrolled(&thirty());
+        for place in ["30", "31", "63", "64", "255", "256", "285", "65535"] {
+            let answer = kit.answer(format!("remove {}", place).as_bytes());
+            assert_eq!(answer, "refused 16", "{}", place);
+        }
+        assert_eq!(kit.answer(b"remove 29"), "removed");
+        assert_eq!(kit.answer(b"remove 29"), "refused 16");
+        assert_eq!(kit.answer(b"remove 00028"), "removed");
+        answered(&[("remove 0", "refused 16"), ("remove 30", "refused 16")]);
+    }
+
+    #[test]
+    fn hear_refuses_1_then_2_then_17() {
+        for enrolled in [&[][..], &[63], &thirty()] {
+            let mut kit = with_enrolled(enrolled);
+            for (bits, expected) in [
+                ("", "1"),
+                ("{0*35}", "1"),
+                ("{0*37}", "1"),
+                ("{x*37}", "1"),
+                ("{0*34}3", "1"),
+                ("{0*8}", "1"),
+                ("{0*35}3", "2"),
+                ("x{0*35}", "2"),
+                ("{9*36}", "2"),
+                // A burst of identity 62, which has the last colour bit 1.
+                ("{2*35}1", "17"),
+            ] {
+                let answer = kit.answer(full(&format!("hear {}", bits)).as_bytes());
+                assert_eq!(answer, format!("refused {}", expected), "{}", bits);
+            }
+            for wrong in [b'3', b'9', b'/', b':', b'x', 0, 13, 128, 255] {
+                let line = [full("hear {0*35}").as_bytes(), &[wrong]].concat();
+                assert_eq!(kit.answer(&line), "refused 2", "byte {}", wrong);
+            }
+        }
+    }
+
+    #[test]
+    fn hear_writes_to_a_lent_buffer_or_leaves_it() {
+        answered_in_turn(&[
+            ("lend 8 7 hear {0*36}", "refused 17 {7*8}"),
+            ("lend 9 7 hear {0*36}", "refused 1 {7*9}"),
+            ("enrol 5", "0"),
+            ("enrol 63", "1"),
+            ("lend 8 7 hear {0*36}", "1 0 {0*8}"),
+            ("lend 00008 0 hear {0*35}1", "1 1 {0*8}"),
+            ("lend 8 9 hear {2*35}1", "refused 17 {9*8}"),
+            ("lend 8 7 hear {0*35}3", "refused 2 {7*8}"),
+            ("lend 9 7 hear {0*35}3", "refused 1 {7*9}"),
+            ("lend 8 7 hear {0*35}", "refused 1 {7*8}"),
+            ("lend 8 7 hear ", "refused 1 {7*8}"),
+            ("lend 0 7 hear {0*36}", "refused 1 -"),
+            ("lend 36 7 hear {0*36}", "refused 1 {7*36}"),
+            ("lend 601 7 hear {0*36}", "?"),
+            ("lend 8 77 hear {0*36}", "?"),
+            ("lend 8 7 hear", "?"),
+            ("lend 8 7 hear  {0*36}", "?"),
+            ("lend 8 7 hear {0*36} ", "?"),
+        ]);
+        let mut kit = with_enrolled(&[63]);
+        for length in 0..=600 {
+            let answer = kit.answer(full(&format!("lend {} 3 hear {{0*36}}", length)).as_bytes());
+            let expected = match length {
+                0 => "refused 1 -".to_string(),
+                8 => full("0 0 {0*8}"),
+                _ => format!("refused 1 {}", "3".repeat(length)),
+            };
+            assert_eq!(answer, expected);
+        }
+    }
+
+    #[test]
+    fn enrol_and_remove_write_nothing_that_is_lent() {
+        answered_in_turn(&[
+            ("enrol 63", "0"),
+            ("lend 8 7 enrol 5", "?"),
+            ("lend 0 7 enrol 5", "?"),
+            ("lend 8 7 enrol 63", "?"),
+            ("lend 8 7 enrol 64", "?"),
+            ("lend 8 7 remove 0", "?"),
+            ("lend 0 7 remove 0", "?"),
+            ("lend 8 7 remove 30", "?"),
+            ("lend 8 7 remove", "?"),
+            ("hear {0*36}", "0 0 {0*8}"),
+            ("enrol 5", "1"),
+        ]);
+    }
+
+    #[test]
+    fn the_words_of_the_hub_have_one_argument() {
+        not_understood(&["enrol", "enrol  ", " enrol 7", "enrol 7 ", "enrol  7"]);
+        not_understood(&["enrol 7 7", "enrol 7 8 9", "enrol\t7", "enrol7", "7 enrol"]);
+        not_understood(&["remove", "remove  ", " remove 0", "remove 0 ", "remove  0"]);
+        not_understood(&["remove 0 0", "remove\t0", "remove0", "0 remove"]);
+        not_understood(&["hear", "hear  ", " hear {0*36}", "hear {0*36} "]);
+        not_understood(&["hear  {0*36}", "hear 63 {0*36}", "hear {0*36} 63"]);
+        not_understood(&["hear {0*18} {0*18}", "hear\t{0*36}", "hear{0*36}"]);
+        for word in [
+            "", "enro", "enroll", "enrols", "enrol?", "?enrol", "Enrol", "ENROL", "nrol",
+            "enrol\0", "remov", "removes", "removed", "remove?", "Remove", "REMOVE", "emove",
+            "remove:", "join",
+        ] {
+            not_understood(&[&format!("{} 7", word)]);
+        }
+        for word in [
+            "", "hea", "hears", "heard", "hear?", "?hear", "Hear", "HEAR", "ear", "hear:", "here",
+        ] {
+            not_understood(&[&format!("{} {{0*36}}", word)]);
+        }
+    }
+
+    #[test]
+    fn the_identity_and_the_place_are_numbers() {
+        let mut kit = with_enrolled(&thirty()[..29]);
+        for number in [
+            "", "65536", "65541", "99999", "100000", "000005", "000000", "x", "5x", "0x5", "-1",
+            "-0", "+5", "5.0", "5,", "\u{665}", "5\0", "5\r", "\r5",
+        ] {
+            for word in ["enrol", "remove"] {
+                let line = format!("{} {}", word, number);
+                assert_eq!(kit.answer(line.as_bytes()), "?", "{}", line);
+            }
+        }
+        assert_eq!(kit.answer(b"enrol 63"), "29");
+        assert_eq!(kit.answer(b"remove 0"), "removed");
+    }
+
+    #[test]
+    fn fresh_begins_the_hub_anew() {
+        let mut kit = Kit::fresh();
+        for _ in 0..2 {
+            for (line, expected) in [
+                ("enrol 5", "0"),
+                ("enrol 63", "1"),
+                ("hear {0*36}", "1 0 {0*8}"),
+                ("fresh ", "?"),
+                ("lend 8 7 fresh", "?"),
+                ("hear {0*36}", "1 0 {0*8}"),
+                ("fresh", "fresh"),
+                ("hear {0*36}", "refused 17"),
+                ("remove 0", "refused 16"),
+                ("remove 1", "refused 16"),
+            ] {
+                assert_eq!(kit.answer(full(line).as_bytes()), full(expected));
+            }
+        }
+    }
+
+    #[test]
+    fn other_lines_leave_the_hub() {
+        let mut kit = with_enrolled(&[5, 63]);
+        for (line, expected) in [
+            ("enrol 63", "refused 14"),
+            ("enrol 64", "refused 3"),
+            ("enrol x", "?"),
+            ("remove 2", "refused 16"),
+            ("remove 30", "refused 16"),
+            ("remove 65536", "?"),
+            ("hear {0*36}", "1 0 {0*8}"),
+            ("hear {2*35}1", "refused 17"),
+            ("hear {3*36}", "refused 2"),
+            ("lend 7 7 hear {0*36}", "refused 1 {7*7}"),
+            ("whose {0*36}", "63 0"),
+            ("access? 63 {0*36}", "0 {0*8}"),
+            ("access? 5 {0*36}", "refused 8 0"),
+            ("mark access {0*36} {0*18} 0", "yes"),
+            ("take 0 {0*116}", "waiting"),
+            ("end", "refused 6"),
+            ("totals", "0 0 0 0"),
+            ("trellis", "0{ 65535*15}"),
+            ("why 17", "no identity at the hub accepts the burst"),
+            ("Fresh", "?"),
+        ] {
+            assert_eq!(
+                kit.answer(full(line).as_bytes()),
+                full(expected),
+                "{}",
+                line
+            );
+            let heard = kit.answer(full("hear {0*36}").as_bytes());
+            assert_eq!(heard, "1 0 00000000", "{}", line);
+        }
+        assert_eq!(kit.answer(b"enrol 0"), "2");
+        assert_eq!(kit.answer(b"remove 0"), "removed");
+        assert_eq!(kit.answer(b"enrol 62"), "0");
+    }
+
+    #[test]
+    fn the_hub_and_the_streams_leave_each_other() {
+        let bursts = bursts_of(&["{0110*65}", "{1101*46}"]);
+        let take = |(number, e)| format!("take {} {}", number, e).into_bytes();
+        let mut streams: Vec<Vec<u8>> = bursts.iter().enumerate().map(take).collect();
+        let calls = ["send {1*260}", "send {1*184}", "end", "end", "totals"];
+        streams.extend(calls.map(|line| full(line).into_bytes()));
+        let hub: Vec<Vec<u8>> = [
+            "enrol 63",
+            "enrol 7",
+            "hear {0*36}",
+            "enrol 7",
+            "remove 0",
+            "hear {0*36}",
+            "enrol 12",
+            "enrol 63",
+            "lend 8 7 hear {0*36}",
+            "remove 9",
+            "remove 1",
+            "hear 001110010001110010001100010011110000",
+            "hear {3*36}",
+            "enrol 0",
+            "hear {2*36}",
+            "remove 2",
+            "hear {2*36}",
+        ]
+        .map(|line| full(line).into_bytes())
+        .to_vec();
+        assert_eq!(streams.len(), hub.len());
+        let both: Vec<Vec<u8>> = streams
+            .iter()
+            .zip(&hub)
+            .flat_map(|(one, other)| [one, other])
+            .cloned()
+            .collect();
+        let in_turn = answers(&both);
+        let every_second = |from| in_turn.iter().skip(from).step_by(2).cloned();
+        assert_eq!(every_second(0).collect::<Vec<String>>(), answers(&streams));
+        assert_eq!(every_second(1).collect::<Vec<String>>(), answers(&hub));
+    }
+
+    #[test]
+    fn a_line_of_1000_bytes_may_lend_what_hear_writes() {
+        let words = "lend 8 7 hear ";
+        for (length, expected) in [(1000, "refused 1 77777777"), (1001, "?")] {
+            let line = format!("{}{{0*{}}}", words, length - words.len());
+            assert_eq!(answer_to(&line), expected);
+        }
+        for word in ["enrol", "remove"] {
+            for length in [999, 1000, 1001] {
+                let line = format!("{} {{0*{}}}", word, length - word.len() - 1);
+                assert_eq!(answer_to(&line), "?");
+            }
+        }
     }
 
     #[test]

@@ -19,6 +19,7 @@
 //! reference make-efr SEED COUNT        prints COUNT kit lines of enhanced full rate
 //! reference make-whose SEED COUNT      prints COUNT kit lines, most of which ask whose a burst was
 //! reference make-marks SEED COUNT      prints COUNT kit lines, most of which mark a decoder's block
+//! reference make-hub SEED COUNT        prints COUNT kit lines of classes that come to a hub
 //! reference make-windows SEED COUNT    prints COUNT kit lines as a text from Windows has them
 //! reference make-full SEED             prints the kit lines of one stream of 16,383 blocks
 //! reference make-sheet SEED COUNT      prints COUNT access sheet lines
@@ -150,7 +151,7 @@ mod tests {
     }
 
     #[test]
-    fn the_twenty_commands_are_known() {
+    fn the_twenty_one_commands_are_known() {
         assert!(matches!(task_of("answer"), Some(Task::Answer)));
         assert!(matches!(task_of("sheet"), Some(Task::Sheet)));
         assert!(matches!(task_of("examples"), Some(Task::Examples)));
@@ -168,6 +169,7 @@ mod tests {
         makes("make-whose 14 1400", "make-whose", 14, 1400);
         makes("make-marks 15 1500", "make-marks", 15, 1500);
         makes("make-bursts 7 20", "make-bursts", 7, 20);
+        makes("make-hub 16 1600", "make-hub", 16, 1600);
         makes("make-windows 0 900", "make-windows", 0, 900);
         makes("make-full 3", "make-full", 3, 0);
         makes("make-sheet 8 200", "make-sheet", 8, 200);
@@ -180,8 +182,8 @@ mod tests {
             make-stream SEED BLOCKS | make-lend SEED COUNT | make-help SEED COUNT | \
             make-totals SEED COUNT | make-ties SEED COUNT | make-missing SEED COUNT | \
             make-bursts SEED COUNT | make-efr SEED COUNT | make-whose SEED COUNT | \
-            make-marks SEED COUNT | make-windows SEED COUNT | make-full SEED | \
-            make-sheet SEED COUNT";
+            make-marks SEED COUNT | make-hub SEED COUNT | make-windows SEED COUNT | \
+            make-full SEED | make-sheet SEED COUNT";
         assert_eq!(usage(), words);
     }
 
@@ -224,6 +226,10 @@ mod tests {
             "make-marks 7",
             "make-mark 7 1",
             "mark",
+            "make-hub",
+            "make-hub 7",
+            "make-hubs 7 1",
+            "hub",
             "make-windows 7 x",
             "make-window 7 1",
             "help",

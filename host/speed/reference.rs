@@ -12,6 +12,7 @@ mod model;
 use model::burst::Interleaving;
 use model::channel::{self, Channel, ACCESS};
 use model::coding::convolve;
+use model::hub::{Hub, PLACES};
 use model::marking::{self, Mark};
 use model::receiving_stream::{Receiver, Taken};
 use model::sending_stream::{sent_and_ended, Sender};
@@ -54,6 +55,38 @@ fn decode(channel: &Channel, calls: usize) -> bool {
 fn name_sender(calls: usize) -> bool {
     let sent = ACCESS.encode(IDENTITY, &bits(8), 36).unwrap();
     repeat(calls, || whose(&sent)) == Ok((IDENTITY, 0))
+}
+
+/// A hub at which so many identities were enrolled, from this one on; 0 comes after 63.
+fn filled(first: u64, kits: usize) -> Hub {
+    let mut hub = Hub::fresh();
+    for identity in (0..64).cycle().skip(first as usize).take(kits) {
+        hub.enrol(identity).unwrap();
+    }
+    hub
+}
+
+/// Whether so many kits more are enrolled, up to the last place.
+fn enrol(calls: usize) -> bool {
+    let mut hub = filled(0, PLACES - 3);
+    let mut identity = (PLACES - 3) as u64..;
+    repeat(calls, || hub.enrol(identity.next().unwrap())).is_ok()
+}
+
+/// Whether so many kits are removed, down from the last place.
+fn remove(calls: usize) -> bool {
+    let mut hub = filled(0, PLACES);
+    let mut places = (0..PLACES).rev();
+    repeat(calls, || hub.remove(places.next().unwrap())).is_ok()
+}
+
+/// Whether a burst is given to this place, or to none, so many times: at the places stand the
+/// identities from the first on.
+fn hear(first: u64, place: Option<usize>, calls: usize) -> bool {
+    let hub = filled(first, PLACES);
+    let sent = ACCESS.encode(IDENTITY, &bits(8), 36).unwrap();
+    let heard = repeat(calls, || hub.hear(&sent, 8));
+    heard.ok().map(|(place, _, _)| place) == place
 }
 
 /// Whether a block gets yes, so many times: one of its coded bits is altered.
@@ -121,6 +154,11 @@ fn run(name: &str, calls: usize) -> bool {
         (_, "encode", Some(channel)) => encode(channel, calls),
         (_, "decode", Some(channel)) => decode(channel, calls),
         ("access", "whose", _) => name_sender(calls),
+        ("hub", "enrol", _) => enrol(calls),
+        ("hub", "remove", _) => remove(calls),
+        ("hub", "hear-first", _) => hear(IDENTITY, Some(0), calls),
+        ("hub", "hear-last", _) => hear(IDENTITY + 35, Some(PLACES - 1), calls),
+        ("hub", "hear-none", _) => hear(IDENTITY + 1, None, calls),
         ("mark", word, _) => {
             marking::marked(word.as_bytes()).map_or(false, |channel| mark(channel, calls))
         }

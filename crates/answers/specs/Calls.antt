@@ -15,3 +15,9 @@ module _ {S C R : Type 0} (answer : S → C → Answer R) (next : R → S) where
   Happened s [] (x ∷ xs) = ⊥
   Happened s (c ∷ cs) [] = ⊥
   Happened s (c ∷ cs) (x ∷ xs) = Meets (answer s c) (x .result) (x .left) × Happened (next (x .result)) cs xs
+
+-- the stream after some calls: the one that the last of them handed back
+module _ {S R : Type 0} (next : R → S) where
+  unfoldable pub handedBack : S → List (Answer R) → S
+  handedBack s [] = s
+  handedBack s (x ∷ xs) = handedBack (next (x .result)) xs

@@ -25,6 +25,14 @@ pub enum Refusal {
     Flags,
     // 10: the three-bit parity of an enhanced full rate block is good and its CRC is bad (02, M-103)
     Crc,
+    // 14: the identity stands at a place of the hub already (02, M-112, as the next three)
+    Taken,
+    // 15: all thirty places are in use
+    AllInUse,
+    // 16: nobody stands at the place that is to be freed, or it is over 29
+    EmptyPlace,
+    // 17: no identity at the hub accepts the burst
+    NoneAccepts,
 }
 
 // What is said of a send, or of the end of a stream.
@@ -57,6 +65,10 @@ pub fn number(r: Refusal) -> u8
         Refusal::Parity => 8,
         Refusal::Flags => 9,
         Refusal::Crc => 10,
+        Refusal::Taken => 14,
+        Refusal::AllInUse => 15,
+        Refusal::EmptyPlace => 16,
+        Refusal::NoneAccepts => 17,
     }
 }
 

@@ -8,13 +8,13 @@ use lib.ListN.{length, take, drop}
 use Rattle.bits.specs.Bits.{Symbols, noneOver, missing, add, digits, value}
 use Rattle.parity.specs.Division.{parity, accessG}
 use Rattle.trellis.specs.Nearest.{Nearest, nearest, nearestCount}
-use Rattle.answers.specs.Answers.{numberOf, returned}
+use Rattle.answers.specs.Answers.{Answer, numberOf, returned}
 use Rattle.answers.specs.declared.Maybe.{Maybe}
 use Rattle.answers.specs.declared.Maybe.the-variants.{None, Some}
 use Rattle.answers.specs.declared.Returned.{Returned}
 use Rattle.answers.specs.declared.Told.{Told}
 use Rattle.answers.specs.declared.Told.the-variants as told
-use Rattle.coder.specs.Entries.{Given, judged, accessSent}
+use Rattle.coder.specs.Entries.{Given, judged, lengths, accessSent}
 use Rattle.coder.specs.Received.{accessReceived}
 use Rattle.coder.specs.Says.{Accepts, FindsBad}
 use Rattle.coder.specs.Promises.{altered, whole}
@@ -40,6 +40,14 @@ naming (told.Refused r) x = Refused r
 -- an access burst: 36 bytes, none over 2; no identity is read and nothing is written
 unfoldable pub accessWhose : List ℕ → Whose
 accessWhose e = naming (judged (eqb (length e) 36) (noneOver 2 e) true) (blockNamed accessG 8 e)
+
+-- 02, M-112: an access burst for whichever identity it is, 36 to 8, of one decoding: the identity and the count as above, and the buffer is left as the access
+-- entry leaves it under that identity
+unfoldable pub anyAccessReceived : List ℕ → List ℕ → Answer Whose
+anyAccessReceived e d = record {
+  result = naming (judged (lengths e 36 d 8) (noneOver 2 e) true) (blockNamed accessG 8 e);
+  left = accessReceived (blockNamed accessG 8 e .identity) e d .left;
+}
 
 -- ---- in 01's numbers: the refusal and nothing besides, or the identity and the count
 abbrev pub ofWhose : Whose → Returned
@@ -90,6 +98,28 @@ ReasonIsTrue = (e out : List ℕ) → Given 2 36 8 e out → TheOne e out
 -- the other way: whoever accepts is the one that is named
 abbrev pub WhoAcceptsIsNamed : Type 0
 WhoAcceptsIsNamed = (i : ℕ) (e out : List ℕ) (count : ℕ) (bits : List ℕ) → Accepts (accessReceived i e out) count bits → Names e i count
+
+-- ---- 02, M-112: the identity, the count and the bits of one decoding
+abbrev pub Hands : Answer Whose → Maybe → Maybe → Maybe → List ℕ → Type 0
+Hands a number identity count left = Tells (a .result) number identity count × (a .left ≡ left)
+
+-- whatever 36 bytes are received, and whatever the eight lent ones held: one identity is named, the bits are handed over that the access entry hands over under
+-- it, and under each other identity that entry gives 8
+pub record HandsOver (e : List ℕ) : Type 0 where
+  pub identity : ℕ
+  pub count : ℕ
+  pub bits : List ℕ
+  pub within : identity ≤ 63
+  pub handed : (out : List ℕ) → length out ≡ 8 → Hands (anyAccessReceived e out) None (Some identity) (Some count) bits
+  pub accepted : (out : List ℕ) → length out ≡ 8 → Accepts (accessReceived identity e out) count bits
+  pub refused : (out : List ℕ) → length out ≡ 8 → (j : ℕ) → j ≤ 63 → (j ≡ identity → ⊥) → FindsBad (accessReceived j e out) count out
+
+-- 1 for a wrong length of either, then 2, the buffer as before; handed over exactly where neither applies
+pub record AnyAccessSays (e out : List ℕ) : Type 0 where
+  pub one : ((length e ≡ 36) × (length out ≡ 8) → ⊥) → Hands (anyAccessReceived e out) (Some 1) None None out
+  pub two : length e ≡ 36 → length out ≡ 8 → (Symbols e → ⊥) → Hands (anyAccessReceived e out) (Some 2) None None out
+  pub handed : length e ≡ 36 → Symbols e → HandsOver e
+  pub only : ofWhose (anyAccessReceived e out .result) .number ≡ None → Given 2 36 8 e out
 
 -- ---- a request is sent for identity i, and of its 36 bits t are altered and m are missing, so few: i is named, and the count is t
 abbrev pub SenderIsNamed : (ℕ → ℕ → Type 0) → Type 0

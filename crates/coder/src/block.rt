@@ -15,6 +15,7 @@ ghost use Rattle.convolution.specs.Pairs.{coded};
 ghost use Rattle.coder.specs.Entries.{Given};
 ghost use Rattle.coder.specs.Received.{blockHeard, hands};
 ghost use Rattle.coder.specs.Whose.{blockNamed, naming};
+ghost use Rattle.coder.specs.laws.Whose.{blockBits};
 ghost use Rattle.coder.specs.laws.Format.{Fits, size, generatorOf, laidOut};
 
 // What such a block is: its generator, D^degree + generator, its bits, and its coded bits.
@@ -108,4 +109,18 @@ pub(crate) fn name(f: Format, c: &[u8]) -> Whose
     let count = decode(f, c, &mut u);
     let identity = parity::colour_of(f.generator, f.degree, &u[0..m]);
     Whose::Named(identity as u8, count)
+}
+
+// The same, and the first bits of the nearest block are handed over.
+pub(crate) fn receive_named(f: Format, c: &[u8], d: &mut [u8]) -> Whose
+    requires { ⌜ (Fits f) × (f .degree ≤ 8) × (Given 2 (f .coded) (f .bits) (now c) (now d)) ⌝ }
+    ensures { λ r. ⌜ (r ≡ naming Done (blockNamed (generatorOf f) (f .bits) (now (c .entry)))) × (now (d .exit) ≡ blockBits (generatorOf f) (f .bits) (now (c .entry))) ⌝ }
+{
+    let n = d.len();
+    let m = n + f.degree as usize;
+    let mut u = [0u8; LONGEST];
+    let count = decode(f, c, &mut u);
+    let who = parity::colour_of(f.generator, f.degree, &u[0..m]);
+    bits::copy(&u[0..n], d);
+    Whose::Named(who as u8, count)
 }

@@ -16,7 +16,7 @@ ghost use Rattle.answers.specs.declared.Told.the-variants.{Refused};
 ghost use Rattle.bits.specs.Bits.{noneOver, both};
 ghost use Rattle.coder.specs.Entries.{judged, speechSent, controlSent, sacchSent, accessSent, schSent, unreached, trellisViewed};
 ghost use Rattle.coder.specs.Received.{blockHeard, reception, speechReceived, controlReceived, sacchReceived, accessReceived, schReceived};
-ghost use Rattle.coder.specs.Whose.{accessWhose};
+ghost use Rattle.coder.specs.Whose.{accessWhose, anyAccessReceived};
 ghost use Rattle.coder.specs.laws.Format.{Fits, generatorOf};
 
 // The trellis view: the sixteen numbers by state; all are 65,535 where the call is refused.
@@ -168,6 +168,17 @@ pub fn whose_access(e: &[u8]) -> Whose
     let told = judge(e, bits::RECEIVED, 36, 0, 0, 0);
     match told {
         Told::Done => block::name(block::ACCESS, e),
+        Told::Refused(why) => Whose::Refused(why),
+    }
+}
+
+// Access received for whichever identity it is: of 36 bits, the one identity under which they are accepted, and the 8 bits.
+pub fn receive_any_access(e: &[u8], d: &mut [u8]) -> Whose
+    ensures { λ r. ⌜ Meets (anyAccessReceived (now (e .entry)) (now (d .entry))) r (now (d .exit)) ⌝ }
+{
+    let told = judge(e, bits::RECEIVED, 36, d.len(), 8, 0);
+    match told {
+        Told::Done => block::receive_named(block::ACCESS, e, d),
         Told::Refused(why) => Whose::Refused(why),
     }
 }

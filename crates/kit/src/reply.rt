@@ -5,6 +5,7 @@ use crate::marks::mark;
 use crate::streams::Said;
 use crate::streams::Streams;
 use crate::streams::call;
+use crate::streams::call_hub;
 use text::digit;
 use text::read_bits;
 use text::same;
@@ -161,6 +162,7 @@ fn answer(
             streams,
         },
         Asks::Stream(asked) => call(streams, asked, number, read, written),
+        Asks::Hub(asked) => call_hub(streams, asked, number, read, written),
         Asks::Nothing => unknown(streams),
     }
 }

@@ -1,8 +1,9 @@
 -- The chart's totals (02, M-100), over the definitions that the contracts of `stream` cite. Proved in laws/Totals.
-use mathlib.Core.List.{List, [], _∷_, map}
+use mathlib.Core.List.{List, map}
 use mathlib.Core.Path.{_≡_}
 use Prim.Native.Nat.{ℕ, _+_, _*_, _≤_}
 use Rattle.answers.specs.Answers.{Answer}
+use Rattle.answers.specs.Calls.{handedBack}
 use Rattle.chart.specs.Answers.{ofTaken}
 use Rattle.chart.specs.Says.{totalsOf}
 use Rattle.chart.specs.declared.Values.{Values}
@@ -13,9 +14,8 @@ use Rattle.stream.specs.declared.receiver.Received.{Received}
 use Rattle.stream.specs.declared.receiver.Receiver.{Receiver}
 
 -- the stream after some calls: the one that the last of them handed back
-unfoldable pub handedBack : Receiver → List (Answer Received) → Receiver
-handedBack s [] = s
-handedBack s (a ∷ given) = handedBack (a .result .next) given
+abbrev pub receiverAfter : Receiver → List (Answer Received) → Receiver
+receiverAfter s given = handedBack (λ (r : Received). r .next) s given
 
 -- what they were answered, in 01's numbers and values
 abbrev pub answered : List (Answer Received) → List Values
@@ -31,4 +31,4 @@ pub record FarFromFull (t : Totals) : Type 0 where
 abbrev pub TotalsPromise : Type 0
 TotalsPromise =
     (calls : List TakeCall) (given : List (Answer Received)) → ReceiverGave calls given
-    → (handedBack freshReceiver given .totals ≡ totalsOf (answered given)) × FarFromFull (totalsOf (answered given))
+    → (receiverAfter freshReceiver given .totals ≡ totalsOf (answered given)) × FarFromFull (totalsOf (answered given))

@@ -2,6 +2,7 @@
 // that the last call told is written; what an entry must tell is tested elsewhere.
 mod blocks;
 mod enhanced;
+mod hubs;
 mod marked;
 mod named;
 mod streams;
@@ -54,10 +55,33 @@ fn call(name: &[u8], calls: u8) -> u32 {
     if same(name, b"take-charted") {
         return streams::take_speech(calls, 0, true);
     }
+    if name.len() > 4 && same(&name[0..4], b"hub-") {
+        return call_hub(&name[4..], calls);
+    }
     if name.len() > 5 && same(&name[0..5], b"mark-") {
         return call_mark(&name[5..], calls);
     }
     call_block(name, calls)
+}
+
+// A call of the hub, and where the identity stands that a burst is for.
+fn call_hub(name: &[u8], calls: u8) -> u32 {
+    if same(name, b"enrol") {
+        return hubs::enrol(calls);
+    }
+    if same(name, b"remove") {
+        return hubs::remove(calls);
+    }
+    if same(name, b"hear-first") {
+        return hubs::hear(7, calls);
+    }
+    if same(name, b"hear-last") {
+        return hubs::hear(42, calls);
+    }
+    if same(name, b"hear-none") {
+        return hubs::hear(8, calls);
+    }
+    65535
 }
 
 // The mark of a channel's block.
@@ -105,6 +129,9 @@ fn call_block(name: &[u8], calls: u8) -> u32 {
     }
     if same(name, b"access-whose") {
         return named::access(calls);
+    }
+    if same(name, b"access-any") {
+        return named::any_access(calls);
     }
     if same(name, b"sch-encode") {
         return blocks::sch(true, calls);

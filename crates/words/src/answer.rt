@@ -6,6 +6,7 @@ use chart::Totals;
 use chart::Values;
 use coder::View;
 use coder::Whose;
+use hub::Said;
 use marking::Fault;
 use marking::Mark;
 
@@ -87,6 +88,19 @@ impl Answer {
                 .with_number(identity as u32)
                 .with_number(count as u32),
             Whose::Refused(why) => Self::refused(answers::number(why) as u16),
+        }
+    }
+
+    // The place; or that it is removed; or the place, the count and the bits of a request; or the refusal.
+    pub fn of_said(said: Said, bits: usize) -> Self {
+        match said {
+            Said::Place(place) => Self::new(NO_WORD).with_number(place as u32),
+            Said::Removed => Self::new(*b"removed "),
+            Said::Request(place, count) => Self::new(NO_WORD)
+                .with_number(place as u32)
+                .with_number(count as u32)
+                .with_bits(bits),
+            Said::Refused(why) => Self::refused(answers::number(why) as u16),
         }
     }
 

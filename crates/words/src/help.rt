@@ -61,11 +61,20 @@ fn place_of_word(word: &[u8]) -> usize {
 
 // why N says refusal N in words.
 fn why(line: &[u8]) -> Question {
-    let k = refusal_of(field(line, 1));
-    if fields(line) == 2 && k > 0 && k <= REFUSALS {
-        return Question::Reason(k - 1);
+    let k = line_of_reason(refusal_of(field(line, 1)));
+    if fields(line) == 2 && k < REFUSALS {
+        return Question::Reason(k);
     }
     Question::Unknown
+}
+
+// The line of a refusal's reason among all; past them where there is none. 11 to 13 are of requests that are not built yet.
+fn line_of_reason(number: usize) -> usize {
+    match number {
+        1..=10 => number - 1,
+        14..=17 => number - 4,
+        _ => REFUSALS,
+    }
 }
 
 // The number of a refusal; 0, which is none, where there is no number.

@@ -18,6 +18,7 @@ pub use print::put_answer;
 pub use verbs::Asks;
 pub use verbs::Call;
 pub use verbs::Channel;
+pub use verbs::HubCall;
 pub use verbs::Verb;
 pub use verbs::asked_by;
 pub use verbs::place_of;

@@ -26,6 +26,13 @@ pub enum Call {
     Fresh,
 }
 
+// What is asked of the hub.
+pub enum HubCall {
+    Enrol,
+    Remove,
+    Hear,
+}
+
 // What a line asks for.
 pub enum Asks {
     Send(Channel),
@@ -34,13 +41,14 @@ pub enum Asks {
     Mark,
     View,
     Stream(Call),
+    Hub(HubCall),
     Nothing,
 }
 
 // A row of the table, filled up with spaces.
 pub type Verb = [u8; 20];
 
-const ROWS: usize = 21;
+const ROWS: usize = 24;
 
 // Every verb: its word, how many bytes are written for it, and its arguments in order, n for a number and b for bits; of a mark c for the channel and u for
 // the block.
@@ -66,6 +74,9 @@ const VERBS: [Verb; ROWS] = [
     *b"end 464             ",
     *b"take 260 nb         ",
     *b"totals 0            ",
+    *b"enrol 0 n           ",
+    *b"remove 0 n          ",
+    *b"hear 8 b            ",
     *b"fresh 0             ",
 ];
 
@@ -91,6 +102,9 @@ const ASKED: [Asks; ROWS] = [
     Asks::Stream(Call::End),
     Asks::Stream(Call::Take),
     Asks::Stream(Call::Totals),
+    Asks::Hub(HubCall::Enrol),
+    Asks::Hub(HubCall::Remove),
+    Asks::Hub(HubCall::Hear),
     Asks::Stream(Call::Fresh),
 ];
 

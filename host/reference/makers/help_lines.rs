@@ -112,11 +112,12 @@ fn misspelt(random: &mut Random) -> Vec<u8> {
     }
 }
 
-/// A number: mostly from 0 to 12, so that each refusal comes, else one that no refusal has.
+/// A number: mostly from 0 to 19, so that each refusal comes and what no refusal has between them,
+/// else a higher one.
 fn number(random: &mut Random) -> Vec<u8> {
-    let low = random.below(13);
+    let low = random.below(20);
     let number = match random.below(8) {
-        0 => random.pick(&[13, 99, 100, 255, 256, 65_534, 65_535]),
+        0 => random.pick(&[20, 99, 100, 255, 256, 65_534, 65_535]),
         // A refusal to one who counts in a single byte.
         1 => 256 * (1 + random.below(255)) + low,
         _ => low,
@@ -126,7 +127,7 @@ fn number(random: &mut Random) -> Vec<u8> {
 
 /// What is no number, some of it a refusal to one who counts in two bytes, or reads no further.
 fn no_number(random: &mut Random) -> Vec<u8> {
-    let low = random.below(13);
+    let low = random.below(20);
     let text = match random.below(8) {
         0 => (65_536 + low).to_string(),
         1 => format!("{:06}", low),
@@ -243,7 +244,7 @@ mod tests {
             let row = handbook::help(word.as_bytes()).unwrap();
             assert!(times(&answers, &row) > 10, "{}", word);
         }
-        for refusal in 1..=10 {
+        for refusal in (1..=10).chain(14..=17) {
             let words = handbook::why(refusal).unwrap();
             assert!(times(&answers, &words) > 10, "{}", refusal);
         }
@@ -253,7 +254,7 @@ mod tests {
     #[test]
     fn every_number_round_the_refusals_comes_and_the_highest() {
         let lines = lines(&mut Random::new(144), 16_000);
-        for number in (0..=12).chain([255, 256, 65_535, 65_536]) {
+        for number in (0..=20).chain([255, 256, 65_535, 65_536]) {
             let line = why(number.to_string().as_bytes());
             assert!(lines.contains(&line), "{}", number);
         }

@@ -5,7 +5,7 @@
 use crate::chance::random::Random;
 use crate::makers::{fields, lesson_lines, received_lines, sent_lines, view_lines};
 use crate::model::burst::FOUR_BURSTS;
-use crate::model::channel;
+use crate::model::channel::{self, ACCESS};
 use crate::model::receiving_stream::LENT_TO_TAKE;
 
 /// The most bytes that a line lends.
@@ -61,6 +61,7 @@ fn writes(line: &[u8]) -> Option<usize> {
     match (word, word.strip_suffix(b"?")) {
         (b"send" | b"end", _) => Some(FOUR_BURSTS),
         (b"take", _) => Some(LENT_TO_TAKE),
+        (b"hear", _) => Some(ACCESS.reads),
         (_, None) => channel::named(word).map(|channel| channel.writes),
         (_, Some(name)) => channel::named(name).map(|channel| channel.reads),
     }

@@ -5,6 +5,7 @@ mod efr_lines;
 mod fields;
 mod full_lines;
 mod help_lines;
+mod hub_lines;
 mod lend_lines;
 mod lesson;
 mod lesson_lines;
@@ -40,7 +41,7 @@ pub struct Maker {
 }
 
 /// All makers.
-pub static MAKERS: [Maker; 17] = [
+pub static MAKERS: [Maker; 18] = [
     Maker {
         mode: "make-lines",
         numbers: "SEED COUNT",
@@ -124,6 +125,12 @@ pub static MAKERS: [Maker; 17] = [
         numbers: "SEED COUNT",
         with_returns: false,
         lines: |random, count| each(random, count, mark_lines::line),
+    },
+    Maker {
+        mode: "make-hub",
+        numbers: "SEED COUNT",
+        with_returns: false,
+        lines: hub_lines::lines,
     },
     Maker {
         mode: "make-windows",

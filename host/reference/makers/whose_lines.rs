@@ -51,7 +51,7 @@ fn any(random: &mut Random) -> Request {
 }
 
 /// 36 bits as they may be received from a sender, or though no one sent them.
-fn received(random: &mut Random, sender: usize) -> Vec<u8> {
+pub fn received(random: &mut Random, sender: usize) -> Vec<u8> {
     let mut e = received_lines::coded(random, &ACCESS, sender);
     match random.below(16) {
         0 | 1 => {}
@@ -67,13 +67,13 @@ fn received(random: &mut Random, sender: usize) -> Vec<u8> {
 }
 
 /// Alters one to three bits.
-fn alter_few(random: &mut Random, e: &mut [u8]) {
+pub fn alter_few(random: &mut Random, e: &mut [u8]) {
     let number = 1 + random.below(3);
     lists::alter(random, e, number);
 }
 
 /// Alters some bits and loses others, up to the weight that is borne.
-fn damage(random: &mut Random, e: &mut [u8]) {
+pub fn damage(random: &mut Random, e: &mut [u8]) {
     let weight = 1 + random.below(6);
     losses::damage(random, e, weight);
 }

@@ -3,8 +3,8 @@
 
 use crate::chance::random::Random;
 use crate::makers::{
-    each, efr_lines, fields, help_lines, lend_lines, lesson_lines, mark_lines, missing_lines,
-    received_lines, sent_lines, ties_lines, totals_lines, view_lines, whose_lines,
+    each, efr_lines, fields, help_lines, hub_lines, lend_lines, lesson_lines, mark_lines,
+    missing_lines, received_lines, sent_lines, ties_lines, totals_lines, view_lines, whose_lines,
 };
 use crate::page::MARK;
 
@@ -21,7 +21,7 @@ pub fn lines(random: &mut Random, count: usize) -> Vec<Vec<u8>> {
     lines
 }
 
-/// Lines of the other makers, a few of each in turn, with fresh streams for each.
+/// Lines of the other makers, a few of each in turn, with fresh streams and a fresh hub for each.
 fn of_other_makers(random: &mut Random, count: usize) -> Vec<Vec<u8>> {
     let mut lines = Vec::new();
     while lines.len() < count {
@@ -38,18 +38,19 @@ fn of_other_makers(random: &mut Random, count: usize) -> Vec<Vec<u8>> {
 
 /// So many lines of one of the other makers.
 fn of_another_maker(random: &mut Random, number: usize) -> Vec<Vec<u8>> {
-    match random.below(15) {
-        0..=3 => lesson_lines::lessons(random, number),
-        4 => lend_lines::lines(random, number),
-        5 => help_lines::lines(random, number),
-        6 => totals_lines::lines(random, number),
-        7 => ties_lines::lines(random, number),
-        8 => missing_lines::lines(random, number),
-        9 => each(random, number, sent_lines::line),
-        10 => each(random, number, received_lines::line),
-        11 => each(random, number, efr_lines::line),
-        12 => whose_lines::lines(random, number),
-        13 => each(random, number, mark_lines::line),
+    match random.below(17) {
+        0..=4 => lesson_lines::lessons(random, number),
+        5 => lend_lines::lines(random, number),
+        6 => help_lines::lines(random, number),
+        7 => totals_lines::lines(random, number),
+        8 => ties_lines::lines(random, number),
+        9 => missing_lines::lines(random, number),
+        10 => each(random, number, sent_lines::line),
+        11 => each(random, number, received_lines::line),
+        12 => each(random, number, efr_lines::line),
+        13 => whose_lines::lines(random, number),
+        14 => each(random, number, mark_lines::line),
+        15 => hub_lines::lines(random, number),
         _ => each(random, number, view_lines::line),
     }
 }
@@ -126,14 +127,16 @@ fn with_inside(random: &mut Random, line: &[u8], bytes: &[u8]) -> Vec<u8> {
 }
 
 /// Words that bits may follow, more than any verb reads.
-const WORDS: [&[u8]; 7] = [
+const WORDS: [&[u8]; 9] = [
     b"send ",
     b"take 0 ",
     b"trellis ",
     b"speech? ",
     b"access 7 ",
+    b"hear ",
     b"lend 464 7 send ",
     b"lend 8 7 access? 5 ",
+    b"lend 8 7 hear ",
 ];
 
 /// A line that, with what stands before it and at its end, has a length round the limit of 1,000
@@ -262,7 +265,7 @@ mod tests {
 
     #[test]
     fn lessons_go_on_between_the_others() {
-        let answers = answers(&lines(&mut Random::new(156), 4000));
+        let answers = answers(&lines(&mut Random::new(156), 8000));
         for (expected, least) in [
             ("speech ", 15),
             ("facch ", 5),

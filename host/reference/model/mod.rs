@@ -1,5 +1,5 @@
 //! What GSM 05.03 (document 000) and papers 01 and 02 define: how blocks are coded and put on
-//! bursts, how they are found again, and the two streams.
+//! bursts, how they are found again, the two streams, and the hub.
 
 pub mod bits;
 pub mod burst;
@@ -9,6 +9,7 @@ pub mod decoding;
 pub mod efr;
 pub mod efr_order;
 pub mod exhaustive;
+pub mod hub;
 pub mod kind;
 pub mod marking;
 pub mod missing;

@@ -2,7 +2,8 @@
 
 use crate::model::missing::MISSING;
 
-/// Why a call is refused. Where several apply: 1, 2, 3, 7, 5, 4, 6, 9, 8, 10.
+/// Why a call is refused. Where several apply: 1, 2, 3, 7, 5, 4, 6, 9, 8, 10; at the hub 1, 2, 3, 14,
+/// 15, 16, 17.
 #[derive(Clone, Copy, Debug, PartialEq)]
 pub enum Refusal {
     /// A lent buffer has another length than the table says.
@@ -25,6 +26,14 @@ pub enum Refusal {
     EqualFlags,
     /// The parity of enhanced full rate is good and its CRC is bad; the count is returned besides.
     BadCrc { count: usize },
+    /// The identity stands at a place of the hub already.
+    IdentityTaken,
+    /// All 30 places of the hub are in use.
+    AllPlacesInUse,
+    /// The place that is to be freed is empty, or over 29.
+    EmptyPlace,
+    /// No identity at the hub accepts the burst.
+    NobodyAccepts,
 }
 
 impl Refusal {
@@ -41,6 +50,10 @@ impl Refusal {
             Refusal::BadParity { .. } => 8,
             Refusal::EqualFlags => 9,
             Refusal::BadCrc { .. } => 10,
+            Refusal::IdentityTaken => 14,
+            Refusal::AllPlacesInUse => 15,
+            Refusal::EmptyPlace => 16,
+            Refusal::NobodyAccepts => 17,
         }
     }
 
@@ -89,7 +102,7 @@ mod tests {
     use super::*;
 
     #[test]
-    fn the_ten_numbers_are_those_of_papers_01_and_02() {
+    fn the_fourteen_numbers_are_those_of_papers_01_and_02() {
         let refusals = [
             WrongLength,
             NotABit,
@@ -101,9 +114,13 @@ mod tests {
             BadParity { count: 3 },
             EqualFlags,
             BadCrc { count: 3 },
+            IdentityTaken,
+            AllPlacesInUse,
+            EmptyPlace,
+            NobodyAccepts,
         ];
         let numbers: Vec<u8> = refusals.iter().map(|refusal| refusal.number()).collect();
-        assert_eq!(numbers, [1, 2, 3, 4, 5, 6, 7, 8, 9, 10]);
+        assert_eq!(numbers, [1, 2, 3, 4, 5, 6, 7, 8, 9, 10, 14, 15, 16, 17]);
         // Of these, 8 and 10 return a count besides.
         for refusal in refusals {
             let count = [8, 10].contains(&refusal.number()).then_some(3);

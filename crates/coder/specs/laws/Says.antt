@@ -45,14 +45,14 @@ module _ (most n m i : ℕ) (d c : List ℕ) where
   abbrev pub told : Told
   told = judged (lengths d n c m) (noneOver most d) (leb i 63)
 
-  is-one : ((length d ≡ n) × (length c ≡ m) → ⊥) → told ≡ Refused Length
+  pub is-one : ((length d ≡ n) × (length c ≡ m) → ⊥) → told ≡ Refused Length
   unfolding judged
   is-one h =
       let both-right : lengths d n c m ≡ true → ⊥ = λ (e : lengths d n c m ≡ true).
       h (eqb-true (length d) n (both-first (eqb (length d) n) (eqb (length c) m) e), eqb-true (length c) m (both-second (eqb (length d) n) (eqb (length c) m) e)) in
       rw (not-true (lengths d n c m) both-right) refl
 
-  is-two : length d ≡ n → length c ≡ m → (NoneOver most d → ⊥) → told ≡ Refused NotBits
+  pub is-two : length d ≡ n → length c ≡ m → (NoneOver most d → ⊥) → told ≡ Refused NotBits
   unfolding judged
   is-two reads lends h = rw (eq-eqb (length d) n reads, eq-eqb (length c) m lends, not-true (noneOver most d) (λ (e : noneOver most d ≡ true). h (none-over most d e))) refl
 

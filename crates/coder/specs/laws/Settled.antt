@@ -4,7 +4,7 @@ use mathlib.Core.Path.{_≡_, sym, _∙_}
 use Prim.Native.Nat.{ℕ}
 use Rattle.answers.specs.laws.Answers.{Settled, meets-once}
 use Rattle.coder.specs.Entries.{speechSent, controlSent, sacchSent, accessSent, schSent, trellisViewed}
-use Rattle.coder.specs.Whose.{accessWhose}
+use Rattle.coder.specs.Whose.{accessWhose, anyAccessReceived}
 use Rattle.coder.specs.declared.Whose.{Whose}
 use Rattle.coder.specs.Received.{speechReceived, controlReceived, sacchReceived, accessReceived, schReceived}
 
@@ -41,6 +41,9 @@ module _ (identity : ℕ) (d c : List ℕ) where
 
   pub access-heard-settled : Settled (accessReceived identity c d)
   access-heard-settled = meets-once (accessReceived identity c d)
+
+  pub any-access-settled : Settled (anyAccessReceived c d)
+  any-access-settled = meets-once (anyAccessReceived c d)
 
 -- where nothing is written the result is all
 pub whose-settled : (e : List ℕ) (r s : Whose) → r ≡ accessWhose e → s ≡ accessWhose e → r ≡ s

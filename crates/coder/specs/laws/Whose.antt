@@ -6,11 +6,11 @@ use mathlib.Core.Path.{_≡_, refl, sym, ap, ap₂, _∙_, subst}
 use Prim.Native.Nat.{ℕ, _+_, _-_, _≤_, _<_, _^_}
 use native.Mathlib.Omega.{arith}
 use lib.Bits.{bitXor}
-use lib.Dec.{eqb}
+use lib.Dec.{eqb, leb, lit≤}
 use lib.ListN.{length, take, drop}
 use lib.Pow.{pow-mono}
 use lib.Seq.{take-add}
-use borrow.Author.Tests.{eqb-true, eq-eqb}
+use borrow.Author.Tests.{eqb-true, eq-eqb, le-leb}
 use Rattle.bits.specs.Bits.{Bits, Symbols, noneOver, both, add, digits, value, ones, zeros}
 use Rattle.bits.specs.laws.Cases.{not-true, false-true}
 use Rattle.bits.specs.laws.Check.{none-over, over-none}
@@ -22,28 +22,29 @@ use Rattle.parity.specs.laws.Division.{length-parity, bits-parity, parity-turne
 use Rattle.parity.specs.laws.Generators.{access-number}
 use Rattle.trellis.specs.Nearest.{Candidate, Nearest, nearest, nearestCount, longest}
 use Rattle.trellis.specs.laws.Nearest.{nearest-is}
-use Rattle.answers.specs.Answers.{numberOf, orNone, ofHeard}
+use Rattle.answers.specs.Answers.{Answer, Meets, numberOf, orNone, ofHeard}
+use Rattle.answers.specs.declared.Heard.the-variants as heard
 use Rattle.answers.specs.declared.Maybe.the-variants.{None, Some}
 use Rattle.answers.specs.declared.Refusal.{Refusal}
 use Rattle.answers.specs.declared.Refusal.the-variants.{Length, NotBits}
 use Rattle.answers.specs.declared.Returned.{Returned}
 use Rattle.answers.specs.declared.Told.{Told}
 use Rattle.answers.specs.declared.Told.the-variants as told
-use Rattle.coder.specs.Entries.{judged, Given, accessSent}
-use Rattle.coder.specs.Received.{allOnes, blockHeard, reception, accessReceived}
+use Rattle.coder.specs.Entries.{judged, lengths, Given, accessSent}
+use Rattle.coder.specs.Received.{allOnes, blockHeard, accessReceived}
 use Rattle.coder.specs.Says.{Accepts}
 use Rattle.coder.specs.Promises.{altered, whole}
-use Rattle.coder.specs.Whose.{Naming, blockNamed, naming, accessWhose, ofWhose, identityOf, Tells, Names, NearestNames, WhoseSays, TheOne, ReasonIsTrue, WhoAcceptsIsNamed, SenderPromise, SenderBears}
+use Rattle.coder.specs.Whose.{Naming, blockNamed, naming, accessWhose, anyAccessReceived, ofWhose, identityOf, Tells, Names, NearestNames, WhoseSays, Hands, HandsOver, AnyAccessSays, TheOne, ReasonIsTrue, WhoAcceptsIsNamed, SenderPromise, SenderBears}
 use Rattle.coder.specs.declared.Whose.{Whose}
 use Rattle.coder.specs.declared.Whose.the-variants.{Named, Refused}
 use Rattle.coder.specs.declared.block.Format.{Format}
 use Rattle.coder.specs.laws.Blocks.{access-long}
-use Rattle.coder.specs.laws.Entries.{done-held}
+use Rattle.coder.specs.laws.Entries.{done-held, done-given, done}
 use Rattle.coder.specs.laws.Format.{Fits, size, generatorOf}
-use Rattle.coder.specs.laws.Heard.{value-ones, found, divided, same-size, hears-good, hears-bad}
+use Rattle.coder.specs.laws.Heard.{value-ones, found, divided, same-size, reception-refused, hears-good, hears-bad}
 use Rattle.coder.specs.laws.Promises.{accepts, finds-bad, access-bears}
 use Rattle.coder.specs.laws.Restored.{same-colour, other-colour}
-use Rattle.coder.specs.laws.Says.{access-receives}
+use Rattle.coder.specs.laws.Says.{told, is-one, is-two, access-receives}
 
 -- ---- the parity bits q after d, to which a colour is added: the colour that they name is theirs
 module _ (g d q : List ℕ) (lq : length q ≡ length g) (bd : Bits d) (bq : Bits q) where
@@ -166,6 +167,14 @@ module _ (f : Format) (c rest v : List ℕ) (fits : Fits f) (ev : v ≡ nearest 
   unfolding blockNamed
   name-count k e = e ∙ ap (nearestCount c) (sym (same-size f))
 
+-- the first n bits of the nearest block, which are handed over under every identity
+unfoldable pub blockBits : List ℕ → ℕ → List ℕ → List ℕ
+blockBits g n c = take n (nearest c (n + length g + 4))
+
+pub same-bits : (g : List ℕ) (j n : ℕ) (c : List ℕ) → blockHeard g j n c .bits ≡ blockBits g n c
+unfolding blockHeard blockBits
+same-bits g j n c = refl
+
 -- ---- access: the answer as it is judged, and where neither refusal applies
 both-true : (b : Bool) → both b true ≡ b
 both-true true = refl
@@ -200,26 +209,67 @@ module _ (e : List ℕ) (le : length e ≡ 36) (se : Symbols e) where
   names-it : Names e (blockNamed accessG 8 e .identity) (blockNamed accessG 8 e .count)
   names-it = (ap ofWhose named-as, ap identityOf named-as)
 
+-- ---- 02, M-112: what is handed over for whichever identity it is
+module _ (e out : List ℕ) where
+  abbrev i : ℕ
+  i = blockNamed accessG 8 e .identity
+
+  module _ (t : Told) (f : t ≡ judged (lengths e 36 out 8) (noneOver 2 e) true) where
+    any-as : naming t (blockNamed accessG 8 e) ≡ anyAccessReceived e out .result
+    unfolding anyAccessReceived
+    any-as = ap (λ (x : Told). naming x (blockNamed accessG 8 e)) f
+
+    -- as the access entry judges the identity that is named
+    judged-so : t ≡ judged (lengths e 36 out 8) (noneOver 2 e) (leb i 63)
+    judged-so = f ∙ ap (judged (lengths e 36 out 8) (noneOver 2 e)) (sym (le-leb i 63 (identity-within e)))
+
+    any-left-refused : (r : Refusal) → t ≡ told.Refused r → out ≡ anyAccessReceived e out .left
+    unfolding anyAccessReceived accessReceived
+    any-left-refused r q = reception-refused 36 8 i e out (blockHeard accessG i 8 e) t judged-so r q .left
+
+    pub any-refused : (r : Refusal) → t ≡ told.Refused r → Meets (anyAccessReceived e out) (Refused r) out
+    unfolding naming
+    any-refused r q = record { result = ap (λ (y : Told). naming y (blockNamed accessG 8 e)) (sym q) ∙ any-as; left = any-left-refused r q }
+
+  module _ (g : Given 2 36 8 e out) where
+    takes-it : accessReceived i e out ≡ record { result = heard.Good (blockNamed accessG 8 e .count); left = blockBits accessG 8 e }
+    unfolding accessReceived
+    takes-it =
+        hears-good 36 8 i e out (identity-within e) g (blockHeard accessG i 8 e) (blockNamed accessG 8 e .count) (named-count accessG 8 e access-short i)
+        (blockBits accessG 8 e) (named-good accessG 8 e access-short) (same-bits accessG i 8 e)
+
+    refuses-it : (j : ℕ) → j ≤ 63 → (j ≡ i → ⊥) → accessReceived j e out ≡ record { result = heard.Bad (blockNamed accessG 8 e .count); left = out }
+    unfolding accessReceived
+    refuses-it j h other =
+        hears-bad 36 8 j e out h g (blockHeard accessG j 8 e) (blockNamed accessG 8 e .count) (named-count accessG 8 e access-short j)
+        (other-bad accessG 8 e access-short j (subst (λ (n : ℕ). j < 2 ^ n) (sym access-long) (omega arith)) other)
+
+    pub hands-it : anyAccessReceived e out ≡ record { result = Named i (blockNamed accessG 8 e .count); left = blockBits accessG 8 e }
+    unfolding anyAccessReceived naming
+    hands-it = rw (done 2 36 8 0 e out (lit≤ tt) g, takes-it) refl
+
+    pub any-done : (w : Whose) (after : List ℕ) → w ≡ naming told.Done (blockNamed (digits 6 0b101111) 8 e) → after ≡ blockBits (digits 6 0b101111) 8 e
+        → Meets (anyAccessReceived e out) w after
+    unfolding naming
+    any-done w after x y = record {
+      result = x ∙ ap (λ (p : List ℕ). naming told.Done (blockNamed p 8 e)) access-number ∙ ap (λ (a : Answer Whose). a .result) (sym hands-it);
+      left = y ∙ ap (λ (p : List ℕ). blockBits p 8 e) access-number ∙ ap (λ (a : Answer Whose). a .left) (sym hands-it);
+    }
+
 -- ---- the reason is true
 pub reason-is-true : ReasonIsTrue
-unfolding accessReceived
 reason-is-true e out g =
     let i : ℕ = blockNamed accessG 8 e .identity in
     let k : ℕ = blockNamed accessG 8 e .count in
-    let b : List ℕ = blockHeard accessG i 8 e .bits in
-    let below : (x : ℕ) → x ≤ 63 → x < 2 ^ length accessG = λ (x : ℕ) (h : x ≤ 63). subst (λ (n : ℕ). x < 2 ^ n) (sym access-long) (omega arith) in
+    let b : List ℕ = blockBits accessG 8 e in
     record {
       identity = i;
       count = k;
       bits = b;
       within = identity-within e;
       names = names-it e (g .reads) (g .bits);
-      accepted =
-          accepts (reception 36 8 i e (blockHeard accessG i 8 e) out) k b
-          (hears-good 36 8 i e out (identity-within e) g (blockHeard accessG i 8 e) k (named-count accessG 8 e access-short i) b (named-good accessG 8 e access-short) refl);
-      refused = λ j h other.
-          finds-bad (reception 36 8 j e (blockHeard accessG j 8 e) out) k out
-          (hears-bad 36 8 j e out h g (blockHeard accessG j 8 e) k (named-count accessG 8 e access-short j) (other-bad accessG 8 e access-short j (below j h) other));
+      accepted = accepts (accessReceived i e out) k b (takes-it e out g);
+      refused = λ j h other. finds-bad (accessReceived j e out) k out (refuses-it e out g j h other);
     }
 
 -- whoever accepts is the one that is named: under another the same bytes get 8
@@ -284,13 +334,13 @@ module _ (e : List ℕ) where
   told-as : (r : Refusal) → accessWhose e ≡ Refused r → Tells (accessWhose e) (Some (numberOf r)) None None
   told-as r f = (ap ofWhose f, ap identityOf f)
 
-  is-one : (length e ≡ 36 → ⊥) → accessWhose e ≡ Refused Length
+  whose-one : (length e ≡ 36 → ⊥) → accessWhose e ≡ Refused Length
   unfolding accessWhose naming judged
-  is-one h = rw (not-true (eqb (length e) 36) (λ (t : eqb (length e) 36 ≡ true). h (eqb-true (length e) 36 t))) refl
+  whose-one h = rw (not-true (eqb (length e) 36) (λ (t : eqb (length e) 36 ≡ true). h (eqb-true (length e) 36 t))) refl
 
-  is-two : length e ≡ 36 → (Symbols e → ⊥) → accessWhose e ≡ Refused NotBits
+  whose-two : length e ≡ 36 → (Symbols e → ⊥) → accessWhose e ≡ Refused NotBits
   unfolding accessWhose naming judged
-  is-two le h = rw (eq-eqb (length e) 36 le, not-true (noneOver 2 e) (λ (t : noneOver 2 e ≡ true). h (none-over 2 e t))) refl
+  whose-two le h = rw (eq-eqb (length e) 36 le, not-true (noneOver 2 e) (λ (t : noneOver 2 e ≡ true). h (none-over 2 e t))) refl
 
   is-done : ofWhose (accessWhose e) .number ≡ None → (length e ≡ 36) × Symbols e
   unfolding accessWhose
@@ -300,8 +350,46 @@ module _ (e : List ℕ) where
 
   pub whose-says : WhoseSays e
   whose-says = record {
-    one = λ h. told-as Length (is-one h);
-    two = λ le h. told-as NotBits (is-two le h);
+    one = λ h. told-as Length (whose-one h);
+    two = λ le h. told-as NotBits (whose-two le h);
     named = nearest-names;
     only = is-done;
+  }
+
+-- ---- 02, M-112: the same of what is handed over for whichever identity it is
+pub hands-over : (e : List ℕ) → length e ≡ 36 → Symbols e → HandsOver e
+hands-over e le se =
+    let i : ℕ = blockNamed accessG 8 e .identity in
+    let k : ℕ = blockNamed accessG 8 e .count in
+    let b : List ℕ = blockBits accessG 8 e in
+    let given : (out : List ℕ) → length out ≡ 8 → Given 2 36 8 e out = λ out l. record { reads = le; bits = se; lends = l } in
+    record {
+      identity = i;
+      count = k;
+      bits = b;
+      within = identity-within e;
+      handed = λ out l.
+          let h = hands-it e out (given out l) in
+          ((ap (λ (a : Answer Whose). ofWhose (a .result)) h, ap (λ (a : Answer Whose). identityOf (a .result)) h), ap (λ (a : Answer Whose). a .left) h);
+      accepted = λ out l. accepts (accessReceived i e out) k b (takes-it e out (given out l));
+      refused = λ out l j h other. finds-bad (accessReceived j e out) k out (refuses-it e out (given out l) j h other);
+    }
+
+module _ (e out : List ℕ) where
+  refused-with : (r : Refusal) → told 2 36 8 0 e out ≡ told.Refused r → Hands (anyAccessReceived e out) (Some (numberOf r)) None None out
+  refused-with r f =
+      let m = any-refused e out (told 2 36 8 0 e out) refl r f in
+      ((ap ofWhose (sym (m .result)), ap identityOf (sym (m .result))), sym (m .left))
+
+  handed-given : ofWhose (anyAccessReceived e out .result) .number ≡ None → Given 2 36 8 e out
+  unfolding anyAccessReceived
+  handed-given h =
+      done-given 2 e out 36 8 0 (told 2 36 8 0 e out) refl (unnumbered e (told 2 36 8 0 e out) (blockNamed accessG 8 e) h)
+
+  pub any-access-says : AnyAccessSays e out
+  any-access-says = record {
+    one = λ h. refused-with Length (is-one 2 36 8 0 e out h);
+    two = λ le lo h. refused-with NotBits (is-two 2 36 8 0 e out le lo h);
+    handed = hands-over e;
+    only = handed-given;
   }

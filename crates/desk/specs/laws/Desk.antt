@@ -14,12 +14,11 @@ use Rattle.answers.specs.declared.Heard.{Heard}
 use Rattle.answers.specs.declared.Heard.the-variants.{Good, Bad}
 use Rattle.answers.specs.declared.Heard.the-variants as heard
 use Rattle.answers.specs.declared.Refusal.{Refusal}
-use Rattle.answers.specs.declared.Refusal.the-variants.{Length, NotBits, Identity, OutOfTurn, Full, NothingSent, Ended, Parity, Flags, Crc}
 use Rattle.answers.specs.declared.Returned.{Returned}
 use Rattle.answers.specs.declared.Told.{Told}
 use Rattle.answers.specs.declared.Told.the-variants.{Done}
 use Rattle.answers.specs.declared.Told.the-variants as told
-use Rattle.answers.specs.laws.Answers.{Settled, meets-once}
+use Rattle.answers.specs.laws.Answers.{Settled, meets-once, number-fits}
 use Rattle.coder.specs.Entries.{judged, lengths, accessSent, controlSent}
 use Rattle.coder.specs.Received.{accessReceived, controlReceived, Hearing, blockHeard, verdict, judgedHearing, reception}
 use Rattle.coder.specs.Whose.{Naming, blockNamed, naming, accessWhose, ofWhose, identityOf}
@@ -98,18 +97,6 @@ module _ (identity : ℕ) (c d : List ℕ) where
   control-count-fits = hearing-fits (judged (lengths c 456 d 184) (noneOver 2 c) (leb 0 63)) (blockHeard controlG 0 184 c) (count-fits c (184 + length controlG + 4))
 
 -- ---- every number fits the middle part, and of `desk_whose_access` every part is what is said
-pub number-fits : (r : Refusal) → numberOf r ≤ 255
-number-fits Length = lit≤ tt
-number-fits NotBits = lit≤ tt
-number-fits Identity = lit≤ tt
-number-fits OutOfTurn = lit≤ tt
-number-fits Full = lit≤ tt
-number-fits NothingSent = lit≤ tt
-number-fits Ended = lit≤ tt
-number-fits Parity = lit≤ tt
-number-fits Flags = lit≤ tt
-number-fits Crc = lit≤ tt
-
 pub told-number-fits : (t : Told) → orNone (ofTold t .number) ≤ 255
 told-number-fits Done = lit≤ tt
 told-number-fits (told.Refused r) = number-fits r

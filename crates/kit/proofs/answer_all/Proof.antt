@@ -12,6 +12,16 @@ Inv-loop chunk₀ line₀ rest₀ streams₀ first₀ turns₀ chunk line rest s
 abbrev μ-loop : tie.MeasureT-loop
 μ-loop chunk₀ line₀ rest₀ streams₀ first₀ turns₀ chunk line rest streams first turns = turns
 
+same-length : tie.Need-same-length Inv-loop μ-loop
+same-length c =
+    let taken = c .before .before .before .before .before .before .before .before .before in
+    search (needs, taken .take-line, taken .before .before .before)
+
+same-length-2 : tie.Need-same-length-2 Inv-loop μ-loop
+same-length-2 c =
+    let taken = c .before .before .before .before .before .before .before .before .before in
+    search (needs, taken .take-line, taken .before .before .before)
+
 loop-again : tie.Need-loop-again Inv-loop μ-loop
 loop-again c =
     let taken = c .before .before .before .before .before .before .before .before .before .before .before .before in
@@ -30,8 +40,8 @@ answer-all-spec =
     (λ c. search needs)
     (λ c. search needs)
     (λ c κs. search needs)
-    (λ c. search needs)
-    (λ c. search needs)
+    same-length
+    same-length-2
     (λ c. search needs)
     (λ c. search needs)
     (λ c. search needs)

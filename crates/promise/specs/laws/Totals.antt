@@ -10,7 +10,7 @@ use lib.ListN.{drop}
 use borrow.Author.Tests.{eqb-true, eqb-false, leb-true, leb-false}
 use Rattle.answers.specs.Answers.{Answer}
 use Rattle.bits.specs.Bits.{pick}
-use Rattle.answers.specs.Calls.{Happened}
+use Rattle.answers.specs.Calls.{handedBack, Happened}
 use Rattle.answers.specs.declared.Refusal.{Refusal}
 use Rattle.answers.specs.declared.Told.{Told}
 use Rattle.answers.specs.declared.Told.the-variants as told
@@ -40,7 +40,7 @@ use Rattle.stream.specs.declared.receiver.Received.{Received}
 use Rattle.stream.specs.declared.receiver.Receiver.{Receiver}
 use Rattle.stream.specs.laws.Receiving.{take-able}
 use Rattle.promise.specs.Promise.{burstOf, after, takenAt}
-use Rattle.promise.specs.Totals.{handedBack, answered, TotalsPromise}
+use Rattle.promise.specs.Totals.{receiverAfter, answered, TotalsPromise}
 
 -- ---- what one answer adds: at most so many blocks, and the count of a good one, which is at most 456
 record Adds (most : ℕ) (m : Totals) : Type 0 where
@@ -191,8 +191,8 @@ module _ (rx : List ℕ) (out : ℕ → List ℕ) where
 
 -- ---- any calls, one after another
 record Sums (s : Receiver) (given : List (Answer Received)) : Type 0 where
-  adds-up : handedBack s given .totals ≡ together (s .totals) (totalsOf (answered given))
-  far : Far (handedBack s given .next .0) (handedBack s given .totals)
+  adds-up : receiverAfter s given .totals ≡ together (s .totals) (totalsOf (answered given))
+  far : Far (receiverAfter s given .next .0) (receiverAfter s given .totals)
 
 sums : (s : Receiver) → Far (s .next .0) (s .totals) → (calls : List TakeCall) (given : List (Answer Received)) → Happened receiverAnswer (λ r. r .next) s calls given → Sums s given
 unfolding Happened handedBack totalsOf receiverAnswer
@@ -212,6 +212,6 @@ pub totals-promise : TotalsPromise
 unfolding freshReceiver
 totals-promise calls given h =
     let all = sums freshReceiver fresh-far calls given h in
-    let is : handedBack freshReceiver given .totals ≡ totalsOf (answered given) = all .adds-up ∙ none-before (totalsOf (answered given)) in
-    let far = subst (Far (handedBack freshReceiver given .next .0)) is (all .far) in
+    let is : receiverAfter freshReceiver given .totals ≡ totalsOf (answered given) = all .adds-up ∙ none-before (totalsOf (answered given)) in
+    let far = subst (Far (receiverAfter freshReceiver given .next .0)) is (all .far) in
     (is, record { blocks = omega (arith, far .blocks, far .within); counts = far .counts })

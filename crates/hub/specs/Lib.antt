@@ -1,0 +1,5 @@
+pub mod Hub
+pub mod Says
+pub mod Classroom
+pub mod Examples
+pub mod laws
