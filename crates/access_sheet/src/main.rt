@@ -1,4 +1,6 @@
 // The access sheet: each line of the input is a request, two digits and eight bits, and is answered by the 36 bits to send.
+#![tactic(auto)]
+
 mod sheet;
 
 use sheet::answer;

@@ -1,4 +1,6 @@
 // What every entry says of its call: done, refused with one of 01's numbers, or what was received; and the same in 01's numbers.
+#![tactic(auto)]
+
 ghost use Rattle.std.specs.Prelude.{◌≡◌};
 ghost use Rattle.answers.specs.Answers.{number_of, of_told, of_heard};
 ghost use Rattle.answers.specs.declared.Maybe.TheVariants.{Some};

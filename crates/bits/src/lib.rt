@@ -1,4 +1,6 @@
 // Bytes that are bits: what every crate's refusals and filling loops stand on.
+#![tactic(auto)]
+
 ghost use Rattle.std.specs.Prelude.{◌≡◌, max, ◌≤◌, ◌/◌, ◌%◌, ◌^◌, ◌-◌, ◌<◌, length, get_or, replicate};
 ghost use Rattle.bits.specs.Bits.{Symbols, digits, given_bits, largest, none_over, symbol, tab};
 

@@ -1,4 +1,6 @@
 // The bursts of a stream: how they are numbered, the ring in which they are held, and a block out of it.
+#![tactic(auto)]
+
 mod held;
 mod numbers;
 mod ring;

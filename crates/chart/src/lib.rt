@@ -1,4 +1,6 @@
 // What take says of its call, as it goes into the chart: by cases, in 01's number and values, and in what it adds to the chart's totals.
+#![tactic(auto)]
+
 mod totals;
 
 ghost use Rattle.std.specs.Prelude.{◌≡◌};

@@ -1,4 +1,6 @@
 // The public face for blocks: each entry answers every length, byte value and number (01, The bench and its edges).
+#![tactic(auto)]
+
 mod block;
 mod control;
 mod sacch;

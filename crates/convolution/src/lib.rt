@@ -1,4 +1,6 @@
 // The convolutional code (000, 3.1.2.2): the two formulas, by which blocks are coded, and the printed table of pairs.
+#![tactic(auto)]
+
 ghost use Rattle.std.specs.Prelude.{◌≡◌, ◌*◌, ◌≤◌, ◌<◌, length};
 ghost use Rattle.bits.specs.Bits.{Bits};
 ghost use Rattle.convolution.specs.Pairs.{back, coded, first, pair_of, second};

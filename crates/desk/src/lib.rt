@@ -1,6 +1,8 @@
 // The face for C: access and control block entries in both directions, and whose request an access burst is, on numbers and byte slices. Every call is
 // coder's, and its answer is one number: 65,536 times 01's number, 0 where none is given, and the count in the lower half; above both the identity that is
 // named.
+#![tactic(auto)]
+
 ghost use Rattle.std.specs.Prelude.{◌≡◌};
 ghost use Rattle.answers.specs.Answers.{Meets, or_none, of_told, of_heard};
 ghost use Rattle.coder.specs.Entries.{access_sent, control_sent};

@@ -1,4 +1,6 @@
 // The control parity as the workbook draws it: a register of forty cells with feedback taps (02, M-104; docs/DRAWING.md has the drawing).
+#![tactic(auto)]
+
 ghost use Rattle.std.specs.Prelude.{true, ◌≡◌, ◌-◌, ◌≤◌, eqb, length, take, drop};
 ghost use Rattle.bits.specs.Bits.{Bits, both, zeros};
 ghost use Rattle.parity.specs.Division.{parity, control_g};

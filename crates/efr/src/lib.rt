@@ -1,4 +1,6 @@
 // Enhanced full rate (02, M-103): 244 bits pass the preliminary stage, then the speech block is coder's.
+#![tactic(auto)]
+
 ghost use Rattle.std.specs.Prelude.{◌≡◌, length};
 ghost use Rattle.answers.specs.Answers.{Meets};
 ghost use Rattle.bits.specs.Bits.{Bits};

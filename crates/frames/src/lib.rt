@@ -1,4 +1,6 @@
 // Frames from the transcoder (02, M-113): full rate speech in the 40 octets of GSM 08.60. A frame is written from C1 to C21 and the 260 bits d, and read again.
+#![tactic(auto)]
+
 mod layout;
 mod octets;
 

@@ -1,5 +1,7 @@
 // The classroom hub (02, M-112): up to thirty kits, each enrolled at a place with an identity of its own; an access request goes to the place whose identity
 // accepts it. A hub goes in by value, and each call hands back the next one.
+#![tactic(auto)]
+
 ghost use Rattle.std.specs.Prelude.{[], ◌≡◌, ◌≤◌, eqb, length};
 ghost use Rattle.answers.specs.Answers.{Meets};
 ghost use Rattle.hub.specs.Hub.{enrol, first_where, fresh_hub, hear, hub_answer, remove, standing};

@@ -1,4 +1,6 @@
 // A block whose flags and coded bits are known: its kind, and what it brings (01, Bursts and streams; 02, M-101).
+#![tactic(auto)]
+
 ghost use Rattle.std.specs.Prelude.{◌≡◌, length};
 ghost use Rattle.answers.specs.Answers.{Meets};
 ghost use Rattle.bits.specs.Bits.{Symbols};

@@ -1,4 +1,6 @@
 // The kit by hand: each line of the input is a word and its arguments, and is answered by one line.
+#![tactic(auto)]
+
 mod blocks;
 mod framing;
 mod hubs;

@@ -1,4 +1,6 @@
 // Marking (02, M-111): may a decoder answer this block and this count to what was received?
+#![tactic(auto)]
+
 ghost use Rattle.std.specs.Prelude.{true, ◌≡◌, ◌-◌, ◌*◌, ◌≤◌, eqb, length, drop};
 ghost use Rattle.bits.specs.Bits.{Bits, Symbols, both, none_over};
 ghost use Rattle.convolution.specs.Pairs.{coded};

@@ -1,4 +1,6 @@
 // Tables of places, counted from 1 as the documents count them and printed in rows of five: bits are fetched in the order of a table, and put back.
+#![tactic(auto)]
+
 ghost use Rattle.std.specs.Prelude.{◌≡◌, ◌*◌, ◌≤◌, length};
 ghost use Rattle.order.specs.Order.{Permutation, Within, entries, fetched, put_back};
 

@@ -1,4 +1,6 @@
 // Division of bits by a generator polynomial, on which all parity bits stand (01, Coding rules).
+#![tactic(auto)]
+
 ghost use Rattle.std.specs.Prelude.{◌≡◌, ◌-◌, ◌≤◌, ◌<◌, ◌^◌, eqb, length};
 ghost use Rattle.std.specs.Int.Bits.{bit_xor};
 ghost use Rattle.bits.specs.Bits.{Bits, value, digits};

@@ -1,4 +1,6 @@
 // The places: where a block's coded bits and flags stand in its bursts (000, 3.1.3, 3.1.4, 4.1.4, 4.1.5).
+#![tactic(auto)]
+
 mod tables;
 
 ghost use Rattle.std.specs.Prelude.{◌++◌, ◌≡◌, ◌+◌, ◌≤◌, ◌<◌, length};

@@ -1,5 +1,7 @@
 // The preliminary stage for enhanced full rate (02, M-103; 000, 3.1.1): from the 244 bits s to the 260 bits d of a speech block, and back with the CRC's
 // verdict.
+#![tactic(auto)]
+
 ghost use Rattle.std.specs.Prelude.{◌++◌, ◌≡◌, ◌+◌, length, take, replicate};
 ghost use Rattle.bits.specs.Bits.{Bits};
 ghost use Rattle.order.specs.Order.{fetched};

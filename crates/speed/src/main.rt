@@ -1,5 +1,7 @@
 // What host/speed counts: a line names an entry, and how many times it is called, up to 9; of the takes, how many bursts, up to 8. The number
 // that the last call told is written; what an entry must tell is tested elsewhere.
+#![tactic(auto)]
+
 mod blocks;
 mod enhanced;
 mod hubs;

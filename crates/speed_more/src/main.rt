@@ -1,5 +1,7 @@
 // What host/speed counts of the entries that the program speed does not call: a line names an entry, and how many times it is called, up to 9. The number that the last call told is
 // written.
+#![tactic(auto)]
+
 mod framed;
 
 use text::{Span, digit, put_number, same, take_line, write_line};

@@ -1,4 +1,6 @@
 // The tables of the documents, counted from 1, in rows of five. Those of enhanced full rate (02, M-103): s and w; and full rate's (02, M-113): D1 to D260.
+#![tactic(auto)]
+
 ghost use Rattle.std.specs.Prelude.{◌≡◌};
 ghost use Rattle.tables.specs.laws.FullRate.{importance_rows};
 ghost use Rattle.tables.specs.laws.Tables.{important_rows, ordering_rows};

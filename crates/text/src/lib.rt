@@ -1,4 +1,6 @@
 // Lines of text, in and out: what the programs share.
+#![tactic(auto)]
+
 mod hex;
 mod lines;
 mod put;

@@ -1,4 +1,6 @@
 // The nearest block (01, What the decoder answers): the row of sixteen path counts, the choices, the walk back.
+#![tactic(auto)]
+
 mod search;
 mod steps;
 

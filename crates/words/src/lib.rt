@@ -1,4 +1,6 @@
 // The kit's words: what a line asks for, what is said of a word, and an answer in characters. Nothing here calls an entry.
+#![tactic(auto)]
+
 mod answer;
 mod fields;
 mod help;
