@@ -2,16 +2,11 @@
 use mathlib.Core.Path.{◌∙◌, ap}
 use Prim.Native.Nat.{ℕ, ◌^◌, ◌<◌, ◌%◌}
 use native.Mathlib.Nat.{mod-eq_of_lt, one-mul, lt_of_le_of_lt}
-use borrow.Author.Rules.{rules}
 use lib.Dec.{lit<}
 use lib.Pow.{pow_mono}
-use Rattle.parity.proofs.power.Statement.{statement}
-use Rattle.parity.proofs.power.Tie as tie
+use Rattle.parity.proofs.power.Goals as goal
 
-returns : tie.Need-returns
+pub returns : goal.returns
 returns c =
     let l : 2 ^ c.args.degree < 2 ^ 64 = lt_of_le_of_lt (pow_mono c.requires) (lit< tt) in
     ap (λ (x : ℕ). x % 2 ^ 64) (one-mul (2 ^ c.args.degree)) ∙ mod-eq_of_lt l
-
-pub power_spec : {M : Type 1} → statement M
-power_spec = tie.close (tie.spec (λ c. search rules) returns)
