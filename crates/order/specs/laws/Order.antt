@@ -1,5 +1,5 @@
 -- One law over the length: a table that passes a computed test is a permutation. And what a permutation fetched is put back.
-use Rattle.std.specs.Prelude.{Bool, List, [], ◌∷◌, ◌≡◌, refl, ℕ, suc, ◌-◌, ◌≤◌, ◌<◌, T, eqb, leb, ltb, length}
+use Rattle.std.specs.Prelude.{zero, Bool, List, [], ◌∷◌, ◌≡◌, refl, ℕ, suc, ◌-◌, ◌≤◌, ◌<◌, T, eqb, leb, ltb, length}
 use Rattle.std.proofs.Math.Path.{sym, ap}
 use Rattle.std.proofs.Common.{◌∙◌, arith, leb→le, ltb→lt}
 use Rattle.std.proofs.Math.Dec.{eqb→eq}
@@ -69,6 +69,7 @@ module _ (n : ℕ) (table : List ℕ) (t : T (permutes n table)) where
   first k h = eqb→eq (place_in table (get_or table k 0)) k (below (first_time table) n (both_left firsts alls (both_right ins (both firsts alls) tests)) k h)
 
   every : (x : ℕ) → 1 ≤ x → x ≤ n → (place_in table x < n) × (get_or table (place_in table x) 0 ≡ x)
+  every zero h l = elim h [ ]
   every (suc k) h l =
       let p : ℕ = place_in table (suc k) in
       let s : T (stands n table k) = below (stands n table) n (both_right firsts alls (both_right ins (both firsts alls) tests)) k l in
@@ -110,6 +111,7 @@ module _ (n : ℕ) (table : List ℕ) (p : Permutation n table) where
   -- w(x) is the bit that comes where x stands
   pub at_put_back : (d : List ℕ) (x : ℕ) → 1 ≤ x → x ≤ n → from1 (put_back table d) x ≡ get_or d (place_in table x) 0
   unfolding put_back
+  at_put_back d zero h l = elim h [ ]
   at_put_back d (suc i) h l = from_suc (put_back table d) i ∙ at_tab (length table) (λ i. get_or d (place_in table (suc i)) 0) i (omega (arith, p.long, l))
 
   -- every entry stands at its own place
