@@ -14,42 +14,42 @@ pub returns-then-not-ends_in_zeros : goal.returns-then-not-ends_in_zeros
 unfolding Deserves
 returns-then-not-ends_in_zeros c =
     let s = c.args in
-    let long = c.if-u-n.left in
+    let long = c.if-u-n.false in
     let zero = c.ends_in_zeros in
-    (long, tail_wrong s.n s.u.now zero.result zero.ensures long (not-true zero.result c.if-not-ends_in_zeros.taken))
+    (long, tail_wrong s.n s.u.now zero.result zero.ensures long c.if-not-ends_in_zeros.true)
 
 pub returns-then-count-true_count : goal.returns-then-count-true_count
 unfolding Deserves
 returns-then-count-true_count c =
     let s = c.args in
-    let long = c.if-u-n.left in
+    let long = c.if-u-n.false in
     let zero = c.ends_in_zeros in
-    (long, tail_found s.n s.u.now zero.result zero.ensures long c.pre.0 (not-false zero.result c.if-not-ends_in_zeros.left), λ e. omega (arith, e, c.true_count.ensures, c.if-count-true_count.taken))
+    (long, tail_found s.n s.u.now zero.result zero.ensures long c.requires.0 c.if-not-ends_in_zeros.false, λ e. omega (arith, e, c.true_count.ensures, c.if-count-true_count.true))
 
 pub returns-then-fewest-count : goal.returns-then-fewest-count
 unfolding Deserves
 returns-then-fewest-count c =
     let s = c.args in
-    let long = c.if-u-n.left in
+    let long = c.if-u-n.false in
     let zero = c.ends_in_zeros in
     let own = c.true_count in
     let fewest = c.fewest in (
       long,
-      tail_found s.n s.u.now zero.result zero.ensures long c.pre.0 (not-false zero.result c.if-not-ends_in_zeros.left),
-      omega (arith, c.if-count-true_count.left, own.ensures),
-      λ f. omega (arith, fewest_at_most s.c.now s.n s.count c.pre.0 c.pre.1 f, fewest.ensures, c.if-fewest-count.taken),
+      tail_found s.n s.u.now zero.result zero.ensures long c.requires.0 c.if-not-ends_in_zeros.false,
+      omega (arith, c.if-count-true_count.false, own.ensures),
+      λ f. omega (arith, fewest_at_most s.c.now s.n s.count c.requires.0 c.requires.1 f, fewest.ensures, c.if-fewest-count.true),
     )
 
 pub returns : goal.returns
 unfolding Deserves
 returns c =
     let s = c.args in
-    let long = c.if-u-n.left in
+    let long = c.if-u-n.false in
     let zero = c.ends_in_zeros in
     let own = c.true_count in
     let fewest = c.fewest in (
       long,
-      tail_found s.n s.u.now zero.result zero.ensures long c.pre.0 (not-false zero.result c.if-not-ends_in_zeros.left),
-      omega (arith, c.if-count-true_count.left, own.ensures),
-      at_most_fewest s.c.now s.n s.count c.pre.0 c.pre.1 (omega (arith, fewest.ensures, c.if-fewest-count.left)),
+      tail_found s.n s.u.now zero.result zero.ensures long c.requires.0 c.if-not-ends_in_zeros.false,
+      omega (arith, c.if-count-true_count.false, own.ensures),
+      at_most_fewest s.c.now s.n s.count c.requires.0 c.requires.1 (omega (arith, fewest.ensures, c.if-fewest-count.false)),
     )
