@@ -1,5 +1,6 @@
 // Lines of standard input, in whatever chunks it comes, and lines of standard output.
-ghost use Rattle.std.specs.Prelude.{◌≤◌, ◌<◌, [], ◌∷◌, ◌≡◌, length};
+ghost use Rattle.std.specs.Io.KnownBytes.{Appends};
+ghost use Rattle.std.specs.Prelude.{◌+◌, ◌≤◌, ◌<◌, [], ◌∷◌, ◌≡◌, length, take, true};
 ghost use Rattle.text.specs.Text.{put_at};
 ghost use Rattle.text.specs.Within.{Within};
 
@@ -110,10 +111,12 @@ fn least(a: usize, b: usize) -> usize
     if a < b { a } else { b }
 }
 
-// Writes the first n bytes of `out` and a newline, at once, so that they are seen at once; false where they cannot be written, which is then said.
+// Writes the first n bytes of `out` and a newline, by one call, so that they are seen at once; false where they cannot be written, which is then
+// said.
 pub fn write_line<W: Write>(rt: &impl Eprint, output: &mut W, out: &mut [u8], n: usize) -> bool
     requires { n < length out.old }
-    ensures { out.new ≡ put_at out.old n (10 ∷ []) }
+    ensures left { out.new ≡ put_at out.old n (10 ∷ []) }
+    ensures written { result ≡ true → Appends (W.contents output.old) (W.contents output.new) (take (n + 1) out.new) }
 {
     let end = put_byte(out, n, b'\n');
     match output.write_all(&out[0..end]) {
