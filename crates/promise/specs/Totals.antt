@@ -1,5 +1,5 @@
 -- The chart's totals (02, M-100), over the definitions that the contracts of `stream` cite. Proved in laws/Totals.
-use Rattle.std.specs.Prelude.{List, map, ◌≡◌, ℕ, ◌+◌, ◌*◌, ◌≤◌}
+use Rattle.std.specs.Prelude.{List, map, ◌≡◌, ◌+◌, ◌*◌, ◌≤◌}
 use Rattle.answers.specs.Answers.{Answer}
 use Rattle.answers.specs.Calls.{handed_back}
 use Rattle.chart.specs.Answers.{of_taken}

@@ -1,6 +1,5 @@
 -- `bits::fill` is right: after k turns the first k bytes are v.
 use mathlib.Core.Path.{refl, sym, ◌∙◌}
-use Prim.Native.Nat.{◌-◌}
 use borrow.Author.Rules.{rules}
 use lib.ListN.{length, replicate, length-replicate, get_or-replicate}
 use Rattle.bits.specs.laws.Tab.{filled_none, filled_more, filled_all, is_tab}

@@ -1,5 +1,5 @@
 -- `bits::give` is right: after k turns the first k bytes are those of `from` as they are given, for the lowest bit of 2 is 0.
-use Prim.Native.Nat.{◌-◌, ◌%◌}
+use Prim.Native.Nat.{◌%◌}
 use lib.ListN.{length, get_or}
 use Rattle.bits.specs.Bits.{given_bits, given_as}
 use Rattle.bits.specs.laws.Missing.{given_lowest}

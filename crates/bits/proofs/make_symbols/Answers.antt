@@ -1,6 +1,5 @@
 -- `bits::make_symbols` is right: after k turns the first k bytes are as they are received, and the others stand.
 use mathlib.Core.Path.{◌≡◌, refl, ap, ◌∙◌}
-use Prim.Native.Nat.{◌-◌}
 use native.Mathlib.Omega.{arith}
 use lib.ListN.{length, get_or}
 use lib.Seq.{get_or-set_other}

@@ -1,6 +1,5 @@
 -- `bits::put_digits` is right: it fills the places in turn, each with its digit.
 use mathlib.Core.Path.{refl}
-use Prim.Native.Nat.{◌-◌}
 use lib.ListN.{length}
 use Rattle.bits.specs.Bits.{digits}
 use Rattle.bits.specs.laws.Tab.{filled_none, filled_more, filled_all}

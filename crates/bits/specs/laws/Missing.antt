@@ -1,13 +1,13 @@
 -- What is received and what is missing of it.
-use Rattle.std.specs.Prelude.{Bool, true, false, List, ◌≡◌, ℕ, zero, suc, ◌+◌, ◌-◌, ◌%◌, ◌≤◌, ◌<◌, min, eqb, length, get_or, take, drop}
+use Rattle.std.specs.Prelude.{Bool, true, false, List, ◌≡◌, ℕ, zero, suc, ◌+◌, ◌-◌, ◌%◌, ◌≤◌, ◌<◌, eqb, length, get_or, take, drop}
 use Rattle.std.proofs.Common.{⊎_elim, ap, subst, ◌∙◌, arith, length-drop, get_or-take, get_or-drop, length-take-le, take_all, eq-eqb, ne_eqb, eqb-true}
 use Rattle.std.proofs.Math.Path.{refl, sym}
 use Rattle.std.proofs.Math.ListN.{get_or-eq_default}
 use Rattle.std.proofs.lemmas.Bool.{eqb-false}
-use Rattle.bits.specs.Bits.{Bits, Symbols, differ, pick, sum, tab, total, is_missing, lost, missing, given_as, given_bits, symbol}
+use Rattle.bits.specs.Bits.{Bits, Symbols, differ, pick, sum, total, is_missing, lost, missing, given_as, given_bits, symbol}
 use Rattle.bits.specs.laws.Cases.{lt_or_le, each_symbol}
 use Rattle.bits.specs.laws.Tab.{at_tab, bits_tab, is_tab, length_tab}
-use Rattle.bits.specs.laws.Total.{total_same, total_le, total_none, total_part}
+use Rattle.bits.specs.laws.Total.{total_same, total_none, total_part}
 
 -- ---- one byte
 pub symbol_le : (b : ℕ) → symbol b ≤ 2

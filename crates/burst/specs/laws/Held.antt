@@ -13,7 +13,7 @@ use Rattle.bits.specs.laws.Tab.{at_tab, length_tab, tab_same, tab_more, bits_tab
 use Rattle.bits.specs.laws.Value.{value_lt, value_snoc}
 use Rattle.burst.specs.Numbers.{first_burst}
 use Rattle.places.specs.Places.{e_at}
-use Rattle.burst.specs.Ring.{held_bit, in_order}
+use Rattle.burst.specs.Ring.{in_order}
 use Rattle.burst.specs.Held.{held_block_at, held_block, saying, sayers, held_flag_at, held_flags}
 use Rattle.places.specs.laws.Places.{every_bit}
 use Rattle.burst.specs.laws.Ring.{in_order_at}

@@ -3,7 +3,6 @@ use Rattle.std.specs.Prelude.{Bool, true, false, ◌≡◌, refl, ℕ, ◌+◌, 
 use Rattle.std.proofs.Common.{arith, eqb-true, eq-eqb, leb-true, le-leb}
 use Rattle.bits.specs.Bits.{pick, both}
 use Rattle.burst.specs.Numbers.{ended}
-use Rattle.burst.specs.declared.numbers.Ending.{Ending}
 use Rattle.burst.specs.declared.numbers.Ending.TheVariants.{Block, Nothing}
 
 pub ended_block : (n : ℕ) → ended (4 * n + 7) ≡ Block (record { 0 = n })

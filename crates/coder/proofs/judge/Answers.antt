@@ -1,5 +1,5 @@
 -- `coder::judge` is right: each answer is the case of `judged` to which the tests on the way lead.
-use borrow.Author.Tests.{eq-eqb, ne_eqb, le-leb, lt-leb, not-true, not-false}
+use borrow.Author.Tests.{eq-eqb, ne_eqb, le-leb, lt-leb}
 use Rattle.coder.specs.Entries.{judged}
 use Rattle.coder.proofs.judge.Goals as goal
 

@@ -1,6 +1,6 @@
 -- `coder::view_trellis` is right: each refusal is the case of `judged` to which the tests on the way lead, and else the row is seen.
 use native.Mathlib.Omega.{arith}
-use borrow.Author.Tests.{eq-eqb, ne_eqb, le-leb, lt-leb, not-true, not-false}
+use borrow.Author.Tests.{eq-eqb, ne_eqb, le-leb, lt-leb}
 use Rattle.coder.specs.Entries.{judged}
 use Rattle.answers.specs.declared.Refusal.TheVariants.{Length, NotBits}
 use Rattle.coder.specs.laws.Entries.{view_refused, view_done}

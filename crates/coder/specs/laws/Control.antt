@@ -3,7 +3,7 @@ use Rattle.std.specs.Prelude.{Bool, true, false, ◌≡◌, drop}
 use mathlib.Core.List.{List, ◌++◌}
 use Rattle.std.proofs.Math.Path.{refl, sym, ap}
 use Rattle.std.proofs.Common.{ap₂, ◌∙◌, arith, lit≤, drop_at, length-take-le, take-add, take-take}
-use Prim.Native.Nat.{ℕ, ◌+◌, ◌-◌, ◌≤◌}
+use Prim.Native.Nat.{ℕ, ◌+◌, ◌≤◌}
 use Rattle.std.proofs.Math.ListN.{length, take, replicate, length-append}
 use Rattle.std.proofs.lemmas.List.{take-append-le}
 use Rattle.bits.specs.Bits.{Bits, add, digits, zeros}

@@ -1,26 +1,23 @@
 -- What each entry answers is what Says has: the refusals by their numbers, what is sent, and THE nearest block of what is received.
-use Rattle.std.specs.Prelude.{Bool, false, List, ◌++◌, ℕ, ◌+◌, ◌-◌, ◌*◌, ◌/◌, ◌%◌, ◌≤◌, ◌<◌, eqb, leb, length, get_or, take, drop}
+use Rattle.std.specs.Prelude.{Bool, false, List, ◌++◌, ℕ, ◌+◌, ◌/◌, ◌%◌, ◌≤◌, ◌<◌, eqb, leb, length, take, drop}
 use Rattle.std.proofs.Math.Bool.{true}
 use Rattle.std.proofs.Math.Path.{◌≡◌, refl, ap}
 use Rattle.std.proofs.Common.{sym, ◌∙◌, subst, lit≤}
 use native.Mathlib.Omega.{arith}
 use borrow.Author.Tests.{eqb-true, leb-true, eq-eqb, le-leb, lt-leb}
-use Rattle.bits.specs.Bits.{Bits, NoneOver, given_bits, pick, both, none_over, tab, add, digits, ones}
+use Rattle.bits.specs.Bits.{Bits, NoneOver, given_bits, none_over, add, digits, ones}
 use Rattle.bits.specs.laws.Cases.{both_first, both_second, not_true}
 use Rattle.bits.specs.laws.Check.{none_over_lem, over_none}
 use Rattle.bits.specs.laws.Parts.{length_lent}
 use Rattle.bits.specs.laws.Sum.{length_add, bits_add, bits_take, bits_drop}
-use Rattle.bits.specs.laws.Tab.{bits_tab}
 use Rattle.bits.specs.laws.Value.{length_digits, bits_digits}
 use Rattle.parity.specs.Division.{remainder, speech_g, control_g, access_g, sch_g}
 use Rattle.parity.specs.laws.Generators.{speech_number}
-use Rattle.trellis.specs.Nearest.{Candidate, Nearest, Fewest, nearest, nearest_count, longest, row}
+use Rattle.trellis.specs.Nearest.{Nearest, nearest, nearest_count, longest, row}
 use Rattle.trellis.specs.laws.Nearest.{nearest_is}
 use Rattle.places.specs.Places.{gathered}
-use Rattle.answers.specs.Answers.{Answer, Meets, Refuses, number_of, returned, of_told, of_heard, sent_or, tells, heard_or, hears}
+use Rattle.answers.specs.Answers.{Answer, Refuses, number_of, returned, of_told, of_heard, sent_or, tells, heard_or, hears}
 use Rattle.answers.specs.declared.Heard.{Heard}
-use Rattle.answers.specs.declared.Heard.TheVariants as heard
-use Rattle.answers.specs.declared.Maybe.{Maybe}
 use Rattle.answers.specs.declared.Maybe.TheVariants.{None, Some}
 use Rattle.answers.specs.declared.Refusal.{Refusal}
 use Rattle.answers.specs.declared.Refusal.TheVariants.{Length, NotBits, Identity}
@@ -29,7 +26,7 @@ use Rattle.answers.specs.declared.Told.{Told}
 use Rattle.answers.specs.declared.Told.TheVariants.{Done, Refused}
 use Rattle.coder.specs.Blocks.{speech_block, control_block, sacch_message, access_burst, sch_burst}
 use Rattle.coder.specs.Entries.{judged, lengths, Given, entry, view_length, unreached, speech_sent, control_sent, sacch_sent, access_sent, sch_sent, trellis_viewed}
-use Rattle.coder.specs.Received.{Hearing, speech_dat, block_heard, speech_heard, judged_hearing, reception, speech_received, control_received, sacch_received, access_received, sch_received}
+use Rattle.coder.specs.Received.{Hearing, block_heard, speech_heard, judged_hearing, reception, speech_received, control_received, sacch_received, access_received, sch_received}
 use Rattle.coder.specs.Says.{Refusing, Sends, SpeechSends, ControlSends, SacchSends, AccessSends, SchSends, Decodes, block_word, BlockDecodes, speech_d, speech_word, SpeechDecodes, Accepts, FindsBad, Receives, SpeechReceives, ControlReceives, SacchReceives, AccessReceives, SchReceives, Views}
 use Rattle.parity.specs.laws.Generators.{control_long}
 use Rattle.coder.specs.laws.Blocks.{access_long, sch_long}

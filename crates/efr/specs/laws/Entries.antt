@@ -1,5 +1,5 @@
 -- What the two entries need: how each of them ends.
-use Rattle.std.specs.Prelude.{Bool, ◌≡◌, ℕ, ◌+◌, ◌≤◌, eqb, leb, drop}
+use Rattle.std.specs.Prelude.{Bool, ◌≡◌, ℕ, eqb, leb, drop}
 use Rattle.std.proofs.Math.Bool.{true, false}
 use mathlib.Core.List.{List, ◌++◌}
 use Rattle.std.proofs.Math.Path.{refl, sym, ap, subst}

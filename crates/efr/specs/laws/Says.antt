@@ -1,5 +1,5 @@
 -- What the two entries answer is what Says has; and 10 is given exactly where the three-bit parity is good and the CRC is not.
-use Rattle.std.specs.Prelude.{Bool, true, false, List, ◌++◌, ◌≡◌, ℕ, ◌+◌, ◌≤◌, leb, length, take, drop}
+use Rattle.std.specs.Prelude.{Bool, true, false, List, ◌++◌, ◌≡◌, ℕ, ◌≤◌, leb, length, take, drop}
 use Rattle.std.proofs.Math.Path.{refl, ap}
 use Rattle.std.proofs.Common.{sym, ◌∙◌, subst, arith, lit≤, length-drop, eq-eqb, eqb-true}
 use Rattle.bits.specs.Bits.{Bits, given_bits, none_over, add, value, ones, zeros}
@@ -11,7 +11,6 @@ use Rattle.trellis.specs.laws.Nearest.{nearest_once}
 use Rattle.order.specs.Order.{fetched}
 use Rattle.order.specs.laws.Order.{over_fetched}
 use Rattle.answers.specs.Answers.{Answer, number_of}
-use Rattle.answers.specs.declared.Heard.TheVariants as heard
 use Rattle.answers.specs.declared.Maybe.{Maybe}
 use Rattle.answers.specs.declared.Maybe.TheVariants.{None, Some}
 use Rattle.answers.specs.declared.Refusal.{Refusal}

@@ -1,7 +1,7 @@
 -- `frames::begins` is right: it looks at the five bits in turn.
 use mathlib.Core.Bool.{true}
 use mathlib.Core.Path.{◌≡◌, sym}
-use Prim.Native.Nat.{ℕ, ◌-◌}
+use Prim.Native.Nat.{ℕ}
 use native.Mathlib.Nat.{not-suc-le-zero}
 use native.Mathlib.Omega.{arith}
 use lib.ListN.{get_or}

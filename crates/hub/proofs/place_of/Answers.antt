@@ -1,13 +1,12 @@
 -- `hub::place_of` is right: at no place that was passed over the one that is sought stands.
 use mathlib.Core.Bool.{true, false}
 use mathlib.Core.Path.{◌≡◌, sym, ap, ◌∙◌}
-use Prim.Native.Nat.{ℕ, ◌-◌}
+use Prim.Native.Nat.{ℕ}
 use native.Mathlib.Nat.{not-suc-le-zero}
 use native.Mathlib.Omega.{arith}
 use lib.Dec.{eqb}
 use borrow.Author.Count.{below_more}
 use borrow.Author.Tests.{eq-eqb, ne_eqb}
-use Rattle.hub.specs.Hub.{standing}
 use Rattle.hub.specs.laws.Places.{holds_at, first_is}
 use Rattle.hub.proofs.place_of.Goals as goal
 

@@ -11,7 +11,6 @@ use Rattle.bits.specs.Bits.{Symbols, pick, none_over}
 use Rattle.bits.specs.laws.Check.{none_over_lem, over_none}
 use Rattle.bits.specs.laws.Cases.{both_first, both_second, not_true, false_true}
 use Rattle.answers.specs.Answers.{Answer, Meets, of_heard, or_none, sent_or}
-use Rattle.answers.specs.declared.Heard.{Heard}
 use Rattle.answers.specs.declared.Refusal.{Refusal}
 use Rattle.answers.specs.declared.Refusal.TheVariants.{Length, NotBits, Identity, Taken, AllInUse, EmptyPlace, NoneAccepts}
 use Rattle.answers.specs.declared.Told.{Told}

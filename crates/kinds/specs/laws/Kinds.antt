@@ -1,5 +1,5 @@
 -- The vote, what coder's entries say of a block, and the rule for as many ones as zeros.
-use Rattle.std.specs.Prelude.{Bool, ◌≡◌, ℕ, ◌≤◌, ◌<◌, ltb, take}
+use Rattle.std.specs.Prelude.{Bool, ◌≡◌, ℕ, ◌<◌, take}
 use Rattle.std.proofs.Math.Bool.{true, false}
 use mathlib.Core.List.{List, ◌++◌}
 use Rattle.std.proofs.Math.Path.{refl, ap, subst}

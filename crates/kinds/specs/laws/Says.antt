@@ -19,7 +19,7 @@ use Rattle.chart.specs.declared.Taken.{Taken}
 use Rattle.chart.specs.declared.Taken.TheVariants as taken
 use Rattle.chart.specs.declared.Values.{Values}
 use Rattle.kinds.specs.Kinds.{vote, good_or_bad, speech_of, facch_of, tied, by_kind}
-use Rattle.kinds.specs.Says.{AsSpeech, AsFacch, AsBad, AsTie, BlockSays, FoundBad, BothBad}
+use Rattle.kinds.specs.Says.{AsSpeech, AsFacch, AsBad, AsTie, BlockSays, BothBad}
 use Rattle.kinds.specs.laws.Kinds.{vote_few, vote_many, vote_even}
 
 -- ---- a block, by its kind: what an answer returns is known of by_kind's

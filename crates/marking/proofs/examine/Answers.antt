@@ -3,7 +3,6 @@ use native.Mathlib.Omega.{arith}
 use Rattle.marking.specs.Marks.{Deserves}
 use Rattle.marking.specs.laws.Marks.{tail_found, tail_wrong, at_most_fewest, fewest_at_most}
 use borrow.Author.Rules.{rules}
-use borrow.Author.Tests.{not-true, not-false}
 use Rattle.marking.proofs.examine.Goals as goal
 
 pub returns-then-u-n : goal.returns-then-u-n

@@ -1,7 +1,7 @@
 -- The four channels: they have what every channel has; so each entry's contract settles what it says, which is what the request says in its order.
 use Rattle.std.specs.Prelude.{List, ◌≡◌, ℕ}
 use Rattle.std.proofs.Common.{lit≤}
-use Rattle.marking.specs.Marks.{Marks, SpeechMarks, ControlMarks, AccessMarks, SchMarks}
+use Rattle.marking.specs.Marks.{SpeechMarks, ControlMarks, AccessMarks, SchMarks}
 use Rattle.marking.specs.Fair.{Channel, MarkSays}
 use Rattle.marking.specs.declared.Mark.{Mark}
 use Rattle.marking.specs.laws.Fair.{mark_says}

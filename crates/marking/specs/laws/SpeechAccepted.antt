@@ -5,7 +5,7 @@ use Rattle.std.proofs.Math.Path.{sym, ap}
 use Rattle.std.proofs.Math.ListN.{length, get_or-append}
 use Rattle.std.proofs.Math.Seq.{ext_get_or}
 use Rattle.std.proofs.lemmas.List.{take-append-le}
-use Rattle.bits.specs.Bits.{Bits, given_bits, zeros, ones}
+use Rattle.bits.specs.Bits.{Bits, given_bits, ones}
 use Rattle.bits.specs.laws.Cases.{lt_or_le}
 use Rattle.bits.specs.laws.Parts.{length_lent}
 use Rattle.bits.specs.laws.Sum.{bits_take, bits_drop, at_zeros}

@@ -1,10 +1,10 @@
 -- `places::fill_bits` is right: it fills the bytes two by two, each with the bit that the table says.
 use mathlib.Core.Path.{sym, ◌∙◌}
-use Prim.Native.Nat.{◌+◌, ◌-◌, ◌*◌, ◌<◌}
+use Prim.Native.Nat.{◌*◌}
 use native.Mathlib.Omega.{arith}
 use lib.ListN.{length-set}
 use Rattle.bits.specs.laws.Tab.{filled_none, filled_pair, filled_all}
-use Rattle.places.specs.laws.Table.{in_row, bit_in_lem, laid, laid_even, laid_odd}
+use Rattle.places.specs.laws.Table.{bit_in_lem, laid, laid_even, laid_odd}
 use borrow.Author.Rules.{rules}
 use Rattle.places.proofs.fill_bits.Goals as goal
 

@@ -1,9 +1,6 @@
 use Prim.Native.Nat.{◌-◌, ◌*◌, ◌≤◌}
 use Rattle.bits.specs.laws.Tab.{Filled}
 use Rattle.places.specs.laws.Table.{laid}
-use Rattle.places.proofs.tables.bit_rows.Reads as bit-rows-reads
-use Rattle.places.proofs.fill_bits.Reads as reads
-use Rattle.places.proofs.fill_bits.Lts as lts
 use Rattle.places.proofs.fill_bits.Given as goal
 
 abbrev pub invariant-loop-x : goal.invariant-loop-x

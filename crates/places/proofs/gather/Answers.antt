@@ -1,7 +1,7 @@
 -- `places::gather` is right: it fills the places row by row, each with what stands where the table says.
 use mathlib.Core.List.{List}
 use mathlib.Core.Path.{◌≡◌, sym, ◌∙◌, subst}
-use Prim.Native.Nat.{ℕ, ◌+◌, ◌-◌, ◌*◌}
+use Prim.Native.Nat.{ℕ, ◌+◌, ◌*◌}
 use native.Mathlib.Omega.{arith}
 use lib.ListN.{get_or, set}
 use Rattle.bits.specs.laws.Tab.{Filled, filled_none, filled_more, filled_all}

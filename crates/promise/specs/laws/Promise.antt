@@ -1,5 +1,5 @@
 -- What a block bears it bears, and so the promise of demand 3 is kept; and the locality that carries it, by itself.
-use Rattle.std.specs.Prelude.{Bool, not, ◌≡◌, refl, ℕ, zero, suc, ◌+◌, ◌*◌, ◌/◌, ◌%◌, ◌≤◌, ◌<◌, ltb, eqb, length, drop}
+use Rattle.std.specs.Prelude.{Bool, not, ◌≡◌, refl, ℕ, ◌+◌, ◌*◌, ◌/◌, ◌%◌, ◌≤◌, ◌<◌, ltb, eqb, length, drop}
 use Rattle.std.proofs.Math.Bool.{true, false}
 use mathlib.Core.List.{List, [], ◌++◌}
 use Rattle.std.proofs.Common.{⊎_elim, ◌∙◌, subst, arith, lit≤, length-take-le, eqb-true}
@@ -7,7 +7,7 @@ use Rattle.std.proofs.Math.Path.{sym, ap, ap₂}
 use Rattle.std.proofs.Math.ListN.{get_or, take}
 use Rattle.std.specs.Int.Count.{ones}
 use Rattle.answers.specs.Answers.{Answer, Meets}
-use Rattle.bits.specs.Bits.{Symbols, given_bits, is_missing, lost, missing, pick, tab, total, differ}
+use Rattle.bits.specs.Bits.{Symbols, given_bits, is_missing, lost, missing, pick, total, differ}
 use Rattle.bits.specs.laws.Cases.{lt_or_le, false_true, each_symbol}
 use Rattle.bits.specs.laws.Missing.{given_same, given_drop, missing_take}
 use Rattle.bits.specs.laws.Tab.{at_tab, length_tab, is_tab, tab_same, over_tab}
@@ -36,7 +36,7 @@ use Rattle.chart.specs.declared.Taken.TheVariants.{Speech, Facch}
 use Rattle.chart.specs.declared.Kind.{Kind}
 use Rattle.chart.specs.declared.Kind.TheVariants as kind
 use Rattle.stream.specs.declared.receiver.Received.{Received}
-use Rattle.promise.specs.Promise.{Valid, Lesson, made, Arrives, block_bits, block_flags, protected, pairs_of, bits_altered, bits_missing, flags_altered, flags_missing, kind_of, bits_out, taken_at, Brings, Answers, flags_that, answer_for, flags_saying, StreamBears, StreamPromise, BurstsMade, IdleHalves, Locality, StreamNearest, NeverAThird}
+use Rattle.promise.specs.Promise.{Valid, Lesson, made, Arrives, block_bits, block_flags, protected, pairs_of, bits_altered, bits_missing, flags_altered, flags_missing, kind_of, bits_out, taken_at, Brings, flags_that, answer_for, flags_saying, StreamBears, StreamPromise, BurstsMade, IdleHalves, Locality, StreamNearest, NeverAThird}
 use Rattle.promise.specs.laws.Sent.{fresh_able, sent_bit, sent_flag, all_done, first_idle, last_idle}
 use Rattle.promise.specs.laws.Taken.{flag_in_lem, brings_block, brings_nothing}
 

@@ -1,12 +1,12 @@
 -- What the receiver holds before burst b is the last eight bursts that arrived; so the answer for block n is made of what stands at its places.
 use mathlib.Core.List.{List}
-use Rattle.std.proofs.Common.{⊎_elim, ◌∙◌, subst, arith, lit<, lt-ltb, le-ltb}
+use Rattle.std.proofs.Common.{⊎_elim, ◌∙◌, arith, lit<, lt-ltb, le-ltb}
 use Rattle.std.specs.Prelude.{◌≡◌, refl, ltb, drop}
 use Rattle.std.proofs.Math.Path.{sym, ap, ap₂}
 use Prim.Native.Nat.{ℕ, zero, suc, ◌+◌, ◌*◌, ◌%◌, ◌≤◌, ◌<◌}
 use Rattle.std.proofs.Math.ListN.{length, get_or}
 use Rattle.std.proofs.Math.Seq.{get_or-take, get_or-drop}
-use Rattle.answers.specs.Answers.{Answer, Meets}
+use Rattle.answers.specs.Answers.{Answer}
 use Rattle.bits.specs.Bits.{Symbols, pick, value}
 use Rattle.bits.specs.laws.Cases.{lt_or_le}
 use Rattle.bits.specs.laws.Parts.{length_lent}

@@ -1,6 +1,6 @@
 -- What 02, M-101 buys is so: with as many flags altered as not the vote is open, and the block is heard as FACCH, then as speech.
 use Rattle.std.specs.Prelude.{Bool, true, false, List, [], ◌++◌, ◌≡◌, refl, ℕ, ◌+◌, ◌*◌, ◌≤◌, ◌<◌, get_or, take}
-use Rattle.std.proofs.Common.{⊎_elim, sym, ap, ◌∙◌, arith, eq-eqb, ne_eqb}
+use Rattle.std.proofs.Common.{⊎_elim, ap, ◌∙◌, arith, eq-eqb, ne_eqb}
 use Rattle.std.proofs.Math.Path.{subst}
 use Rattle.std.proofs.Math.ListN.{length, drop}
 use Rattle.answers.specs.Answers.{Answer, Meets}

@@ -3,7 +3,7 @@ use Rattle.std.specs.Prelude.{Bool, true, false, ◌≡◌, refl, eqb, leb, leng
 use mathlib.Core.List.{List}
 use Rattle.std.proofs.Math.Path.{sym, ap, subst₂}
 use Rattle.std.proofs.Common.{◌∙◌, arith, eqb-true, leb-true, leb-false}
-use Prim.Native.Nat.{ℕ, ◌+◌, ◌-◌, ◌*◌, ◌/◌, ◌%◌, ◌≤◌, ◌<◌}
+use Prim.Native.Nat.{ℕ, ◌+◌, ◌-◌, ◌*◌, ◌/◌, ◌%◌}
 use Rattle.bits.specs.Bits.{both, none_over}
 use Rattle.std.proofs.lemmas.Bool.{eqb-false}
 use Rattle.answers.specs.Answers.{Answer, number_of, or_none, of_told}
@@ -19,7 +19,6 @@ use Rattle.burst.specs.laws.Numbers.{ended_block, ended_none}
 use Rattle.kinds.specs.Kinds.{vote, by_kind}
 use Rattle.kinds.specs.Says.{BothBad}
 use Rattle.kinds.specs.laws.Says.{given, of_flags}
-use Rattle.chart.specs.Answers.{of_taken}
 use Rattle.stream.specs.Receiving.{take_judged, take_told, block_answer, at_ending, burst_answer, after_taking, take_answer}
 use Rattle.stream.specs.Says.{Takeable, Nine, NineOnly}
 use Rattle.stream.specs.declared.receiver.Received.{Received}

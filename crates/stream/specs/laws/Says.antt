@@ -1,14 +1,14 @@
 -- What send, end and take answer is what Says has, for every value of a stream.
 use Rattle.std.proofs.Math.Bool.{Bool}
-use Rattle.std.specs.Prelude.{true, false, List, ◌++◌, ◌≡◌, ℕ, ◌+◌, ◌*◌, ◌≤◌, ◌<◌, eqb, leb, ltb, length, take, drop}
+use Rattle.std.specs.Prelude.{true, List, ◌≡◌, ℕ, ◌+◌, ◌*◌, eqb, length}
 use Rattle.std.proofs.Math.Path.{refl, ap}
-use Rattle.std.proofs.Common.{sym, ap₂, ◌∙◌, arith, lit≤}
-use borrow.Author.Tests.{eqb-true, eq-eqb, ne_eqb, le-leb, lt-leb, lt-ltb, le-ltb}
-use Rattle.bits.specs.Bits.{pick, both, none_over}
+use Rattle.std.proofs.Common.{sym, ◌∙◌, arith}
+use borrow.Author.Tests.{eqb-true, eq-eqb, ne_eqb, le-leb, lt-leb}
+use Rattle.bits.specs.Bits.{both, none_over}
 use Rattle.bits.specs.laws.Cases.{both_first, both_second, not_true}
 use Rattle.bits.specs.laws.Check.{none_over_lem, over_none}
-use Rattle.answers.specs.Answers.{Answer, number_of, returned, of_told}
-use Rattle.answers.specs.declared.Maybe.TheVariants.{None, Some}
+use Rattle.answers.specs.Answers.{Answer, number_of, of_told}
+use Rattle.answers.specs.declared.Maybe.TheVariants.{Some}
 use Rattle.answers.specs.declared.Refusal.{Refusal}
 use Rattle.answers.specs.declared.Refusal.TheVariants.{Length, NotBits, OutOfTurn, Full, NothingSent, Ended}
 use Rattle.answers.specs.declared.Told.{Told}
@@ -21,21 +21,17 @@ use Rattle.burst.specs.laws.Held.{held_ones}
 use Rattle.burst.specs.laws.Numbers.{ended_block, ended_none}
 use Rattle.coder.specs.laws.Says.{told_done}
 use Rattle.kinds.specs.Kinds.{vote, by_kind}
-use Rattle.kinds.specs.Says.{BlockSays}
 use Rattle.kinds.specs.laws.Says.{block_says}
 use Rattle.chart.specs.Totals.{more, counted}
 use Rattle.chart.specs.laws.Totals.{adds_says}
-use Rattle.chart.specs.Answers.{values, of_taken}
+use Rattle.chart.specs.Answers.{of_taken}
 use Rattle.stream.specs.Receiving.{fresh_receiver, take_judged, take_told, block_answer, at_ending, burst_answer, taken_next, after_taking, take_answer}
-use Rattle.stream.specs.Says.{SentReturns, FreshSays, Sendable, SendSays, Endable, EndSays, TakeReturns, Takeable, flags_saying, refuses, TakeSays}
+use Rattle.stream.specs.Says.{SentReturns, FreshSays, SendSays, EndSays, TakeReturns, Takeable, flags_saying, refuses, TakeSays}
 use Rattle.stream.specs.Sending.{fresh_sender, is_block, send_judged, send_told, sent_bursts, sent_next, send_answer, end_judged, end_told, end_bursts, end_next, end_answer, afterwards}
 use Rattle.stream.specs.laws.Receiving.{take_able, takes_on}
 use Rattle.stream.specs.laws.Sending.{send_able, sends_on, end_able, ends_on}
-use Rattle.chart.specs.declared.Kind.{Kind}
-use Rattle.chart.specs.declared.Kind.TheVariants as kind
 use Rattle.chart.specs.declared.Taken.{Taken}
 use Rattle.chart.specs.declared.Taken.TheVariants as taken
-use Rattle.chart.specs.declared.Values.{Values}
 use Rattle.stream.specs.declared.receiver.Received.{Received}
 use Rattle.stream.specs.declared.receiver.Receiver.{Receiver}
 use Rattle.stream.specs.declared.sender.Sender.{Sender}

@@ -19,7 +19,6 @@ use Rattle.coder.specs.laws.Entries.{sends}
 use Rattle.stream.specs.Says.{Sendable, Endable}
 use Rattle.stream.specs.Sending.{is_facch, is_block, block_of, send_judged, send_told, sent_bursts, sent_next, send_answer, end_judged, end_told, end_bursts, end_next, end_answer, afterwards}
 use Rattle.stream.specs.declared.sender.Sender.{Sender}
-use Rattle.stream.specs.declared.sender.Sent.{Sent}
 
 -- ---- what `sender::begin` asks
 pub record Codable (d last block e : List ℕ) : Type 0 where

@@ -7,7 +7,7 @@ use Rattle.std.proofs.Math.Path.{sym, ap, ap₂}
 use Prim.Native.Nat.{ℕ, zero, suc, ◌+◌, ◌-◌, ◌*◌, ◌/◌, ◌%◌, ◌≤◌, ◌<◌}
 use Rattle.std.proofs.Math.ListN.{length}
 use Rattle.std.proofs.lemmas.List.{length-reverse}
-use Rattle.bits.specs.Bits.{pick, add, zeros, total, is_missing, lost, missing, differ}
+use Rattle.bits.specs.Bits.{add, zeros, total, is_missing, lost, missing, differ}
 use Rattle.bits.specs.laws.Sum.{length_add, bits_add, drop_add, sum_nothing}
 use Rattle.bits.specs.laws.Missing.{differ_sum, differ_between}
 use Rattle.bits.specs.laws.Total.{total_same, total_le, total_add}

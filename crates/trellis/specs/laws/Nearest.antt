@@ -6,7 +6,7 @@ use Rattle.std.proofs.Math.Path.{refl, sym, ap, subst}
 use Rattle.std.proofs.Common.{ap₂, ◌∙◌, arith}
 use Prim.Native.Nat.{ℕ, zero, suc, ◌+◌, ◌*◌, ◌/◌, ◌%◌, ◌≤◌, ◌<◌}
 use Rattle.std.proofs.Math.ListN.{length-reverse}
-use Rattle.bits.specs.Bits.{Bits, zeros, differ}
+use Rattle.bits.specs.Bits.{Bits, zeros}
 use Rattle.bits.specs.laws.Missing.{differ_le}
 use Rattle.bits.specs.laws.Sum.{length_zeros, bits_zeros}
 use Rattle.register.specs.Register.{NotAfter, next, state, path_cost, Least, way, best, walk}

@@ -1,6 +1,6 @@
 -- `burst::held::gather_flags` is right: whether each flag says b is put behind those before it in a number.
 use mathlib.Core.Path.{◌≡◌, refl, ap, ◌∙◌}
-use Prim.Native.Nat.{ℕ, ◌-◌}
+use Prim.Native.Nat.{ℕ}
 use native.Mathlib.Omega.{arith}
 use borrow.Author.Rules.{rules}
 use Rattle.bits.specs.Bits.{tab, tab_from, value}

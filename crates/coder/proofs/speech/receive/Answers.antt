@@ -3,7 +3,6 @@ use mathlib.Core.Path.{refl}
 use native.Mathlib.Omega.{arith}
 use lib.Dec.{lit≤}
 use lib.Seq.{length-take-le}
-use borrow.Author.Tests.{not-true, not-false}
 use Rattle.bits.specs.laws.Sum.{over_take}
 use Rattle.coder.specs.Received.{speech_heard}
 use Rattle.coder.specs.laws.Heard.{handed_good, handed_bad}

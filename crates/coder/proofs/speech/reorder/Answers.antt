@@ -1,6 +1,5 @@
 -- `coder::speech::reorder` is right: turn k lays down d(2k) from the front and d(2k+1) from the back.
 use mathlib.Core.Path.{sym, ◌∙◌}
-use Prim.Native.Nat.{◌-◌}
 use native.Mathlib.Omega.{arith}
 use lib.ListN.{length-set}
 use Rattle.coder.specs.laws.Reordered.{reordered_none, reordered_more, reordered_all}

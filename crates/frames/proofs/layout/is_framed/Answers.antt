@@ -1,12 +1,11 @@
 -- `frames::layout::is_framed` is right: it looks at the first sixteen bits, and at the first of each group.
 use mathlib.Core.Bool.{true}
 use mathlib.Core.Path.{◌≡◌, sym, ◌∙◌}
-use Prim.Native.Nat.{ℕ, ◌+◌, ◌-◌, ◌*◌}
+use Prim.Native.Nat.{ℕ, ◌+◌, ◌*◌}
 use native.Mathlib.Nat.{not-suc-le-zero}
 use native.Mathlib.Omega.{arith}
 use lib.ListN.{get_or}
 use borrow.Author.Count.{below_more}
-use borrow.Author.Tests as tests
 use Rattle.bits.specs.laws.Cases.{not_true, false_true}
 use Rattle.frames.specs.Frame.{fixed_right}
 use Rattle.frames.specs.laws.Layout.{sync_right, one_right, all_right}

@@ -1,7 +1,6 @@
 use mathlib.Core.Path.{◌≡◌}
 use Prim.Native.Nat.{ℕ, ◌+◌, ◌-◌, ◌*◌, ◌≤◌, ◌<◌}
 use lib.ListN.{get_or}
-use borrow.Author.Tests as tests
 use Rattle.frames.proofs.layout.is_framed.Given as goal
 
 abbrev pub invariant-loop-group : goal.invariant-loop-group

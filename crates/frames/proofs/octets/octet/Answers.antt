@@ -1,6 +1,5 @@
 -- `frames::octets::octet` is right: each bit is one more at the low end.
 use mathlib.Core.Path.{refl, ◌∙◌}
-use Prim.Native.Nat.{◌-◌}
 use native.Mathlib.Omega.{arith}
 use Rattle.bits.specs.Bits.{value}
 use Rattle.frames.specs.laws.Octets.{value_more, value_whole, value_less}

@@ -1,5 +1,4 @@
 -- `decode` has the places 5 and 7 to turn, whatever a call writes. Assumes nothing.
-use Prim.Native.Nat.{◌-◌}
 use native.Mathlib.Omega.{arith}
 use mathlib.Core.Path.{refl}
 use Rattle.speed.proofs.blocks.decode.Goals as goal

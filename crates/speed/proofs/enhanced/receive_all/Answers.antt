@@ -1,5 +1,4 @@
 -- `receive_all` has the places 5 and 7 to turn, whatever a call writes. Assumes nothing.
-use Prim.Native.Nat.{◌-◌}
 use native.Mathlib.Omega.{arith}
 use mathlib.Core.Path.{refl}
 use Rattle.speed.proofs.enhanced.receive_all.Goals as goal

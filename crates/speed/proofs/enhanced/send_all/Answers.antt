@@ -1,5 +1,4 @@
 -- `send_all` has a place 3 to turn, whatever a call writes. Assumes nothing.
-use Prim.Native.Nat.{◌-◌}
 use native.Mathlib.Omega.{arith}
 use mathlib.Core.Path.{refl}
 use Rattle.speed.proofs.enhanced.send_all.Goals as goal

@@ -1,5 +1,4 @@
 -- `hear_all` has the places 5 and 7 to turn. Assumes nothing.
-use Prim.Native.Nat.{◌-◌}
 use native.Mathlib.Omega.{arith}
 use mathlib.Core.Path.{refl, sym}
 use Rattle.speed.proofs.hubs.hear_all.Goals as goal

@@ -1,5 +1,4 @@
 -- `mark_all` has the place 0 to turn. Assumes nothing.
-use Prim.Native.Nat.{◌-◌}
 use native.Mathlib.Omega.{arith}
 use mathlib.Core.Path.{refl}
 use Rattle.speed.proofs.marked.mark_all.Goals as goal

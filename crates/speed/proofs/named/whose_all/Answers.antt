@@ -1,5 +1,4 @@
 -- `whose_all` has the places 5 and 7 to turn. Assumes nothing.
-use Prim.Native.Nat.{◌-◌}
 use native.Mathlib.Omega.{arith}
 use mathlib.Core.Path.{refl}
 use Rattle.speed.proofs.named.whose_all.Goals as goal

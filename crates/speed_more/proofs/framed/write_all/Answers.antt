@@ -1,6 +1,5 @@
 -- `write_all` has the place to turn. Assumes nothing.
 use mathlib.Core.Path.{refl}
-use Prim.Native.Nat.{◌-◌}
 use native.Mathlib.Omega.{arith}
 use Rattle.speed_more.proofs.framed.write_all.Goals as goal
 

@@ -1,5 +1,4 @@
 -- `put_numbers` writes at most twenty digits and a space for each number. Assumes nothing.
-use Prim.Native.Nat.{◌-◌}
 use native.Mathlib.Omega.{arith}
 use Rattle.words.proofs.print.put_numbers.Goals as goal
 
