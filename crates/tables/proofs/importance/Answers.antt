@@ -1,0 +1,8 @@
+-- `tables::importance` is right: the table is the one that is tested.
+use mathlib.Core.Path.{refl}
+use Rattle.tables.specs.laws.FullRate.{importance_rows}
+use Rattle.tables.proofs.importance.Goals as goal
+
+pub returns : goal.returns
+unfolding importance_rows
+returns c = refl
