@@ -6,7 +6,7 @@ ghost use Rattle.answers.specs.Answers.{number_of, of_told, of_heard};
 ghost use Rattle.answers.specs.declared.Maybe.TheVariants.{Some};
 
 // Why there is a no (01, Numbers given for a no).
-#[derive(Drop)]
+#[derive(Clone, Copy)]
 pub enum Refusal {
     // 1: a lent buffer has another length than the table says
     Length,
@@ -43,14 +43,14 @@ pub enum Refusal {
 }
 
 // What is said of a send, or of the end of a stream.
-#[derive(Drop)]
+#[derive(Clone, Copy)]
 pub enum Told {
     Done,
     Refused(Refusal),
 }
 
 // What is said of a block that is received.
-#[derive(Drop)]
+#[derive(Clone, Copy)]
 pub enum Heard {
     // the block, and in how many places it disagrees with what was received
     Good(u16),
@@ -84,14 +84,14 @@ pub fn number(r: Refusal) -> u8
 }
 
 // A number that is returned, or none.
-#[derive(Drop)]
+#[derive(Clone, Copy)]
 pub enum Maybe {
     None,
     Some(u16),
 }
 
 // What is returned: 01's number, if one is given, and the count, if 01 says that it is returned besides.
-#[derive(Drop)]
+#[derive(Clone, Copy)]
 pub struct Returned {
     pub number: Maybe,
     pub count: Maybe,

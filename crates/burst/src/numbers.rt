@@ -2,10 +2,10 @@
 ghost use Rattle.std.specs.Prelude.{◌≡◌, ◌+◌, ◌<◌};
 ghost use Rattle.burst.specs.Numbers.{first_burst, ended};
 
-#[derive(Drop)]
+#[derive(Clone, Copy)]
 pub struct BlockNumber(pub u16);
 
-#[derive(Drop)]
+#[derive(Clone, Copy)]
 pub struct BurstNumber(pub u32);
 
 pub fn next_block(n: BlockNumber) -> BlockNumber

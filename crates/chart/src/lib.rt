@@ -12,7 +12,7 @@ use burst::BlockNumber;
 pub use totals::{Totals, counted};
 
 // What take says of its call.
-#[derive(Drop)]
+#[derive(Clone, Copy)]
 pub enum Taken {
     // this burst brings no block
     Waiting,
@@ -27,7 +27,7 @@ pub enum Taken {
 }
 
 // The kind of a block, by its flags or as it is told.
-#[derive(Drop)]
+#[derive(Clone, Copy)]
 pub enum Kind {
     Speech,
     Facch,
@@ -35,7 +35,7 @@ pub enum Kind {
 }
 
 // What is returned of a take: 01's number, the kind, the block's number and the count, where 01 says that they are returned.
-#[derive(Drop)]
+#[derive(Clone, Copy)]
 pub struct Values {
     pub number: Maybe,
     pub kind: Kind,

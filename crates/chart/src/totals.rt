@@ -4,7 +4,7 @@ ghost use Rattle.chart.specs.Totals.{four, adds, highest, counted};
 
 use crate::Taken;
 
-#[derive(Drop)]
+#[derive(Clone, Copy)]
 pub struct Totals {
     // good speech blocks
     pub speech: u32,

@@ -17,7 +17,7 @@ use answers::Heard;
 use trellis::LONGEST;
 
 // What such a block is: its generator, D^degree + generator, its bits, and its coded bits.
-#[derive(Drop)]
+#[derive(Clone, Copy)]
 pub(crate) struct Format {
     pub(crate) generator: u64,
     pub(crate) degree: u32,

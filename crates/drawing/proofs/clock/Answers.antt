@@ -13,4 +13,4 @@ pub returns : goal.returns
 unfolding control_taps is_tap occurs from_below tab_from
 returns c =
     let s = c.args in
-    clock_is control_taps s.t1 s.bit 39 (search rules) c.requires.0 c.requires.1 refl (bit_xor s.bit (get_or s.t1 39 0)) refl
+    clock_is control_taps s.cells s.bit 39 (search rules) c.requires.0 c.requires.1 refl (bit_xor s.bit (get_or s.cells 39 0)) refl

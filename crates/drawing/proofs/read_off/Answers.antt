@@ -11,7 +11,7 @@ use Rattle.drawing.proofs.read_off.Goals as goal
 
 pub loop-k-init : goal.loop-k-init
 loop-k-init c =
-    filled_none (turned c.args.t1) 40 c.args.p.now c.requires.1
+    filled_none (turned c.args.cells) 40 c.args.p.now c.requires.1
 
 pub complement-requires : goal.complement-requires
 complement-requires c = c.requires.0 _
@@ -19,12 +19,12 @@ complement-requires c = c.requires.0 _
 pub loop-k-preserved : goal.loop-k-preserved
 loop-k-preserved c =
     let l = c.loop-k in
-    filled_more (turned c.args.t1) 40 l.k c.complement.result l.p l.invariant c.loop-k-test.true c.complement.ensures
+    filled_more (turned c.args.cells) 40 l.k c.complement.result l.p l.invariant c.loop-k-test.true c.complement.ensures
 
 pub returns : goal.returns
 unfolding read_off
 returns c =
-    let cells = c.args.t1 in
+    let cells = c.args.cells in
     let l = c.loop-k in
     let long : length cells ≡ 40 = search rules in
     filled_all (turned cells) 40 l.k l.p l.invariant c.loop-k-test.false ∙ ap (λ (n : ℕ). tab n (λ j. 1 - get_or cells (n - 1 - j) 0)) (sym long)

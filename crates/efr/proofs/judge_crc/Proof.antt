@@ -1,6 +1,6 @@
 -- `efr::judge_crc` is right: s is read out of d, and handed over where the CRC is good.
 use mathlib.Core.Path.{◌∙◌}
-use borrow.Author.Tests.{not_true, not-false}
+use borrow.Author.Tests.{not-true, not-false}
 use Rattle.efr.specs.laws.Entries.{crc_good_lem, crc_bad}
 use borrow.Author.Rules.{rules}
 use Rattle.efr.proofs.judge_crc.Statement.{statement}
@@ -10,7 +10,7 @@ returns : tie.Need-returns
 returns c =
     let s = c.before.before.before.before.before.before.args in
     let read = c.before.before.restore in
-    crc_bad s.count s.d.now s.s.now read.result read.ensures.0 (not_true read.result c.if1.true)
+    crc_bad s.count s.d.now s.s.now read.result read.ensures.0 (not-true read.result c.if1.true)
 
 returns-2 : tie.Need-returns-2
 returns-2 c =

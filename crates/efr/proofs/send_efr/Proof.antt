@@ -1,6 +1,6 @@
 -- `efr::send_efr` is right: the preliminary stage, then the speech entry.
 use mathlib.Core.Path.{refl, sym, ◌∙◌}
-use borrow.Author.Tests.{not_true, not-false}
+use borrow.Author.Tests.{not-true, not-false}
 use Rattle.bits.specs.laws.Check.{none_over_lem}
 use Rattle.efr.specs.laws.Entries.{sent_length, sent_lent, sent_not_bits, sent_done}
 use borrow.Author.Rules.{rules}
@@ -16,7 +16,7 @@ returns-2 c = sent_lent c.before.before.before.before.args.s.now c.before.before
 returns-3 : tie.Need-returns-3
 returns-3 c =
     let s = c.before.before.before.before.before.before.args in
-    sent_not_bits s.s.now s.c.now c.before.before.before.if1.false c.before.before.if2.false (sym c.before.none_over.ensures ∙ not_true c.before.none_over.result c.if3.true)
+    sent_not_bits s.s.now s.c.now c.before.before.before.if1.false c.before.before.if2.false (sym c.before.none_over.ensures ∙ not-true c.before.none_over.result c.if3.true)
 
 arrange-requires : tie.Need-arrange-requires
 arrange-requires c κs =

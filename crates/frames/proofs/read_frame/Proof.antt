@@ -3,7 +3,7 @@ use mathlib.Core.List.{List, ◌++◌}
 use mathlib.Core.Path.{sym, ap, ◌∙◌}
 use Prim.Native.Nat.{ℕ, ◌*◌}
 use lib.ListN.{length, take, drop}
-use borrow.Author.Tests.{not_true, not-false}
+use borrow.Author.Tests.{not-true, not-false}
 use Rattle.answers.specs.declared.Refusal.TheVariants.{Length, FixedBit, FrameType}
 use Rattle.frames.specs.Frame.{fixed_right, is_speech}
 use Rattle.frames.specs.Octets.{unpacked}
@@ -22,7 +22,7 @@ returns c =
     let d = s.d.now in
     let x = s.octets.now in
     let lengths = c.before.are-sized in
-    read_refused k d x Length (read_1 k d x (sym lengths.ensures ∙ not_true lengths.result c.if1.true))
+    read_refused k d x Length (read_1 k d x (sym lengths.ensures ∙ not-true lengths.result c.if1.true))
 
 unpack-requires : tie.Need-unpack-requires
 unpack-requires c κs =
@@ -44,7 +44,7 @@ returns-2 c =
     let size = sym lengths.ensures ∙ not-false lengths.result c.before.before.before.before.before.before.if1.false in
     let f = c.before.before.before.before.unpack in
     let framed = c.before.is_framed in
-    let fixed = sym (framed.ensures ∙ ap fixed_right f.ensures) ∙ not_true framed.result c.if2.true in
+    let fixed = sym (framed.ensures ∙ ap fixed_right f.ensures) ∙ not-true framed.result c.if2.true in
     read_refused k d x FixedBit (read_18 k d x size fixed)
 
 returns-3 : tie.Need-returns-3
@@ -60,7 +60,7 @@ returns-3 c =
     let fixed = sym (framed.ensures ∙ ap fixed_right f.ensures) ∙ not-false framed.result c.before.before.before.before.before.before.before.if2.false in
     let p = c.before.before.before.before.take_out in
     let speech = c.before.is_speech_lem in
-    let type = sym (speech.ensures ∙ ap is_speech (p.ensures ∙ ap taken_out f.ensures) ∙ same_type (unpacked x)) ∙ not_true speech.result c.if3.true in
+    let type = sym (speech.ensures ∙ ap is_speech (p.ensures ∙ ap taken_out f.ensures) ∙ same_type (unpacked x)) ∙ not-true speech.result c.if3.true in
     read_refused k d x FrameType (read_19 k d x size fixed type)
 
 hand-over-requires : tie.Need-hand-over-requires

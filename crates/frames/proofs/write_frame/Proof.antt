@@ -1,7 +1,7 @@
 -- `frames::write_frame` is right: each way in which it ends.
 use mathlib.Core.Path.{sym, ◌∙◌}
 use native.Mathlib.Omega.{arith}
-use borrow.Author.Tests.{not_true, not-false}
+use borrow.Author.Tests.{not-true, not-false}
 use Rattle.answers.specs.declared.Refusal.TheVariants.{Length, NotBits, FrameType}
 use Rattle.bits.specs.laws.Check.{none_over_lem}
 use Rattle.frames.specs.laws.Entries.{is_sized, no_bits_c, no_bits_d, two_bits, write_1, write_2, write_19, write_0, write_refused, write_done}
@@ -16,7 +16,7 @@ returns c =
     let d = s.d.now in
     let x = s.octets.now in
     let lengths = c.before.are-sized in
-    write_refused k d x Length (write_1 k d x (sym lengths.ensures ∙ not_true lengths.result c.if1.true))
+    write_refused k d x Length (write_1 k d x (sym lengths.ensures ∙ not-true lengths.result c.if1.true))
 
 returns-2 : tie.Need-returns-2
 returns-2 c =
@@ -27,7 +27,7 @@ returns-2 c =
     let lengths = c.before.before.before.are-sized in
     let size = sym lengths.ensures ∙ not-false lengths.result c.before.before.if1.false in
     let first = c.before.none_over in
-    write_refused k d x NotBits (write_2 k d x size (no_bits_c k d x (sym first.ensures ∙ not_true first.result c.if2.true)))
+    write_refused k d x NotBits (write_2 k d x size (no_bits_c k d x (sym first.ensures ∙ not-true first.result c.if2.true)))
 
 returns-3 : tie.Need-returns-3
 returns-3 c =
@@ -38,7 +38,7 @@ returns-3 c =
     let lengths = c.before.before.before.before.before.are-sized in
     let size = sym lengths.ensures ∙ not-false lengths.result c.before.before.before.before.if1.false in
     let second = c.before.none-over2 in
-    write_refused k d x NotBits (write_2 k d x size (no_bits_d k d x (sym second.ensures ∙ not_true second.result c.if3.true)))
+    write_refused k d x NotBits (write_2 k d x size (no_bits_d k d x (sym second.ensures ∙ not-true second.result c.if3.true)))
 
 is-speech-requires : tie.Need-is-speech-requires
 is-speech-requires c κs =
@@ -63,7 +63,7 @@ returns-4 c =
     let bits_c = sym first.ensures ∙ not-false first.result c.before.before.before.before.if2.false in
     let bits_d = sym second.ensures ∙ not-false second.result c.before.before.if3.false in
     let speech = c.before.is_speech_lem in
-    write_refused k d x FrameType (write_19 k d x size (two_bits k d x bits_c bits_d) (sym speech.ensures ∙ not_true speech.result c.if4.true))
+    write_refused k d x FrameType (write_19 k d x size (two_bits k d x bits_c bits_d) (sym speech.ensures ∙ not-true speech.result c.if4.true))
 
 fill-frame-requires : tie.Need-fill-frame-requires
 fill-frame-requires c κs =

@@ -3,7 +3,7 @@ use native.Mathlib.Omega.{arith}
 use Rattle.marking.specs.Marks.{Deserves}
 use Rattle.marking.specs.laws.Marks.{tail_found, tail_wrong, at_most_fewest, fewest_at_most}
 use borrow.Author.Rules.{rules}
-use borrow.Author.Tests.{not_true, not-false}
+use borrow.Author.Tests.{not-true, not-false}
 use Rattle.marking.proofs.examine.Statement.{statement}
 use Rattle.marking.proofs.examine.Tie as tie
 
@@ -17,7 +17,7 @@ returns-2 c =
     let s = c.before.before.before.before.before.args in
     let long = c.before.before.if1.left in
     let zero = c.before.ends-in-zeros in
-    (long, tail_wrong s.n s.u.now zero.result zero.ensures long (not_true zero.result c.if2.taken))
+    (long, tail_wrong s.n s.u.now zero.result zero.ensures long (not-true zero.result c.if2.taken))
 
 returns-3 : tie.Need-returns-3
 unfolding Deserves

@@ -24,7 +24,7 @@ returns : tie.Need-returns invariant-loop decreases-loop
 returns c =
     let f = c.before.before.before.before.args.frame.now in
     let n = c.before.none_over in
-    sym (not_true (fixed_right f) (λ (t : fixed_right f ≡ true). false_true (sym (tests.not_true n.result c.if1.true) ∙ n.ensures ∙ sync_right f t)))
+    sym (not_true (fixed_right f) (λ (t : fixed_right f ≡ true). false_true (sym (tests.not-true n.result c.if1.true) ∙ n.ensures ∙ sync_right f t)))
 
 loop-holds : tie.Need-loop-init invariant-loop decreases-loop
 loop-holds c = (omega arith, λ g h. absurd (not-suc-le-zero h))

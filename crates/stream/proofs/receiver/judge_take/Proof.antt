@@ -2,7 +2,7 @@
 use mathlib.Core.Bool.{false}
 use mathlib.Core.Path.{◌≡◌, sym, ◌∙◌}
 use borrow.Author.Rules.{rules}
-use borrow.Author.Tests.{eq-eqb, ne_eqb, le-leb, lt-leb, not_true, not-false}
+use borrow.Author.Tests.{eq-eqb, ne_eqb, le-leb, lt-leb, not-true, not-false}
 use Rattle.bits.specs.Bits.{none_over}
 use Rattle.stream.specs.Receiving.{take_judged}
 use Rattle.stream.proofs.receiver.judge_take.Statement.{statement}
@@ -20,7 +20,7 @@ returns-3 : tie.Need-returns-3
 unfolding take_judged
 returns-3 c =
     let e = c.before.before.before.before.before.args.e.now in
-    let over : none_over 2 e ≡ false = sym c.before.none_over.ensures ∙ not_true c.before.none_over.result c.if3.true in
+    let over : none_over 2 e ≡ false = sym c.before.none_over.ensures ∙ not-true c.before.none_over.result c.if3.true in
     simp (eq-eqb _ _ c.before.before.before.if1.false, eq-eqb _ _ c.before.before.if2.false, over)
 
 returns-4 : tie.Need-returns-4

@@ -1,13 +1,13 @@
 -- `stream::sender::judge_send` is right: each answer is the case of `send_judged` to which the tests on the way lead.
 use borrow.Author.Rules.{rules}
-use borrow.Author.Tests.{eq-eqb, ne_eqb, le-leb, lt-leb, not_true, not-false}
+use borrow.Author.Tests.{eq-eqb, ne_eqb, le-leb, lt-leb, not-true, not-false}
 use Rattle.stream.specs.Sending.{send_judged}
 use Rattle.stream.proofs.sender.judge_send.Statement.{statement}
 use Rattle.stream.proofs.sender.judge_send.Tie as tie
 
 returns : tie.Need-returns
 unfolding send_judged
-returns c = simp (← c.before.is_Block.ensures, not_true c.before.is_Block.result c.if1.true)
+returns c = simp (← c.before.is_Block.ensures, not-true c.before.is_Block.result c.if1.true)
 
 returns-2 : tie.Need-returns-2
 unfolding send_judged
@@ -21,7 +21,7 @@ returns-3 c =
       not-false c.before.before.before.before.is_Block.result c.before.before.before.if1.false,
       eq-eqb _ _ c.before.before.if2.false,
       ← c.before.none_over.ensures,
-      not_true c.before.none_over.result c.if3.true,
+      not-true c.before.none_over.result c.if3.true,
     )
 
 returns-4 : tie.Need-returns-4

@@ -1,0 +1,11 @@
+-- `coder::block::append_ones` is right: its three parts make the whole.
+use Rattle.coder.specs.laws.Protected.{laid}
+use Rattle.coder.proofs.block.append_ones.Goals as goal
+
+pub returns : goal.returns
+returns c =
+    let copied = c.copy in
+    let ones = c.fill in
+    let zeros = c.fill-2 in
+    laid c.args.d.now c.args.u.now copied.new.to ones.new.out zeros.new.out c.args.m
+    c.requires.0 c.requires.1 copied.ensures ones.ensures zeros.ensures

@@ -1,0 +1,16 @@
+-- `coder::receive_access` is right: the number in the code is its generator.
+use Rattle.parity.specs.laws.Generators.{access_number}
+use Rattle.coder.specs.Received.{access_received}
+use Rattle.coder.specs.laws.Format.{access_fits}
+use Rattle.coder.specs.laws.Heard.{same_reception}
+use Rattle.coder.proofs.receive_access.Goals as goal
+
+pub receive_block-requires : goal.receive_block-requires
+receive_block-requires c = access_fits
+
+pub returns : goal.returns
+unfolding access_received
+returns c =
+    let s = c.args in
+    let heard = c.receive_block in
+    same_reception access_number 8 36 s.identity s.e.now s.d.now heard.result heard.new.d heard.ensures

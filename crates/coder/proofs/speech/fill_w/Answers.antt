@@ -1,0 +1,10 @@
+-- `coder::speech::fill_w` is right: two parts, one after the other.
+use Rattle.coder.specs.laws.SpeechHeard.{laid_check}
+use Rattle.coder.proofs.speech.fill_w.Goals as goal
+
+pub returns : goal.returns
+returns c =
+    let s = c.args in
+    let x = c.copy in
+    let y = c.copy-2 in
+    laid_check s.d.now s.u.now s.w.now x.new.to y.new.to c.requires.0 c.requires.2 x.ensures y.ensures
