@@ -13,25 +13,26 @@ use streams::{Streams, fresh_streams};
 use text::{Span, take_line, without_mark, without_return, write_line};
 use words::{Question, put_answer, put_said, question_of};
 
-fn main() {
+fn main(rt: HostRuntime) {
     let mut chunk = [0u8; 4096];
     // a line may have 1,000 bytes, and before them a byte order mark and behind them a carriage return; one byte more, so that a longer line is
     // seen to be longer
     let mut line = [0u8; 1005];
-    answer_all(&mut chunk, &mut line);
+    answer_all(&rt, &mut chunk, &mut line);
 }
 
 // Answers each line as it comes, while the answers can be written; the turns are counted, since nothing says that the input ends.
-fn answer_all(chunk: &mut [u8], line: &mut [u8]) {
+fn answer_all(rt: &HostRuntime, chunk: &mut [u8], line: &mut [u8]) {
+    let mut input = rt.stdin();
     let mut rest = Span { at: 0, end: 0 };
     let mut streams = fresh_streams();
     let mut first = true;
     let mut turns = u64::MAX;
     while turns > 0 {
-        let taken = take_line(chunk, rest, line);
+        let taken = take_line(rt, &mut input, chunk, rest, line);
         let kept = taken.kept;
         let more = taken.more;
-        let next = answer_line(streams, &line[0..kept], first, more);
+        let next = answer_line(rt, streams, &line[0..kept], first, more);
         if !next.written || !more {
             return;
         }
@@ -60,10 +61,10 @@ struct Next {
 }
 
 // Answers a line that was taken. A last one without its newline counts if it is not empty.
-fn answer_line(streams: Streams, taken: &[u8], first: bool, ended: bool) -> Next {
+fn answer_line(rt: &HostRuntime, streams: Streams, taken: &[u8], first: bool, ended: bool) -> Next {
     let line = plain(taken, first, ended);
     if ended || line.len() > 0 {
-        return write_answer(streams, line);
+        return write_answer(rt, streams, line);
     }
     Next {
         streams,
@@ -72,23 +73,23 @@ fn answer_line(streams: Streams, taken: &[u8], first: bool, ended: bool) -> Next
 }
 
 // Writes the answer to a line: what the kit says of itself, or what comes of a call.
-fn write_answer(streams: Streams, line: &[u8]) -> Next {
+fn write_answer(rt: &HostRuntime, streams: Streams, line: &[u8]) -> Next {
     match question_of(line) {
-        Question::Nothing => write_called(streams, line),
+        Question::Nothing => write_called(rt, streams, line),
         question => Next {
             streams,
-            written: write_said(question),
+            written: write_said(rt, question),
         },
     }
 }
 
-fn write_said(question: Question) -> bool {
+fn write_said(rt: &HostRuntime, question: Question) -> bool {
     let mut out = [0u8; 1001];
     let n = put_said(&mut out, question);
-    write_line(&mut out, n)
+    write_line(rt, &mut rt.stdout(), &mut out, n)
 }
 
-fn write_called(streams: Streams, line: &[u8]) -> Next {
+fn write_called(rt: &HostRuntime, streams: Streams, line: &[u8]) -> Next {
     // as long as the longest that a line may lend
     let mut buffer = [0u8; 600];
     let said = reply(streams, line, &mut buffer);
@@ -96,7 +97,7 @@ fn write_called(streams: Streams, line: &[u8]) -> Next {
     let after = said.streams;
     let mut out = [0u8; 1001];
     let n = put_answer(&mut out, answer, &buffer);
-    let written = write_line(&mut out, n);
+    let written = write_line(rt, &mut rt.stdout(), &mut out, n);
     Next {
         streams: after,
         written,

@@ -6,16 +6,16 @@ mod framed;
 
 use text::{Span, digit, put_number, same, take_line, write_line};
 
-fn main() {
+fn main(rt: HostRuntime) {
     let mut chunk = [0u8; 4096];
     let mut line = [0u8; 80];
-    let taken = take_line(&mut chunk, Span { at: 0, end: 0 }, &mut line);
+    let taken = take_line(&rt, &mut rt.stdin(), &mut chunk, Span { at: 0, end: 0 }, &mut line);
     let kept = taken.kept;
-    run(&line[0..kept]);
+    run(&rt, &line[0..kept]);
 }
 
 // NAME CALLS
-fn run(line: &[u8]) {
+fn run(rt: &HostRuntime, line: &[u8]) {
     if line.len() < 3 {
         return;
     }
@@ -23,7 +23,7 @@ fn run(line: &[u8]) {
     let told = call(&line[0..end], digit(line[end + 1]));
     let mut out = [0u8; 40];
     let n = put_number(&mut out, 0, told as u64);
-    write_line(&mut out, n);
+    write_line(rt, &mut rt.stdout(), &mut out, n);
 }
 
 // The entry of a name, called so many times.

@@ -1,4 +1,5 @@
 pub mod Within
+pub mod Decimal
 pub mod Text
 pub mod Hexadecimal
 pub mod laws

@@ -4,7 +4,7 @@ use Prim.Native.Char.{code}
 use Prim.Native.String.{String}
 use Prim.Native.String.{[] as end, ◌∷◌ as ◌then◌}
 use Rattle.bits.specs.Bits.{pick, both}
-use Rattle.io.specs.Digits.{last_digits as digitsOf, IsDigitCount}
+use Rattle.text.specs.Decimal.{last_digits, IsDigitCount}
 
 -- the bytes of a text whose characters are one byte each
 abbrev pub bytes_of : String → List ℕ
@@ -45,8 +45,8 @@ bit_character b = pick (eqb b 0) 48 49
 -- a number's decimal digits, no more than it takes, stand from place n up to place r, and the rest of the buffer is left
 pub record PutNumber (number n r : ℕ) (before after : List ℕ) : Type 0 where
   pub short : r ≤ n + 20
-  pub fewest : IsDigitCount 10 1 number (r - n)
-  pub put : after ≡ put_at before n (digitsOf 10 (r - n) number)
+  pub fewest : IsDigitCount number (r - n)
+  pub put : after ≡ put_at before n (last_digits (r - n) number)
 
 abbrev pub refused_word : List ℕ
 refused_word = bytes_of "refused "

@@ -2,3 +2,4 @@ pub mod Same
 pub mod Put
 pub mod Plain
 pub mod Hexadecimal
+pub mod Decimal

@@ -1,6 +1,7 @@
 // Lines of text, in and out: what the programs share.
 #![tactic(auto)]
 
+mod decimal;
 mod hex;
 mod lines;
 mod put;

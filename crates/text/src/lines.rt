@@ -1,11 +1,12 @@
 // Lines of standard input, in whatever chunks it comes, and lines of standard output.
-ghost use Rattle.std.specs.Prelude.{◌≤◌, ◌<◌, [], ◌∷◌, ◌≡◌, length};
+ghost use Rattle.std.specs.Io.KnownBytes.{Appends};
+ghost use Rattle.std.specs.Prelude.{◌+◌, ◌≤◌, ◌<◌, [], ◌∷◌, ◌≡◌, length, take, true};
 ghost use Rattle.text.specs.Text.{put_at};
 ghost use Rattle.text.specs.Within.{Within};
 
 use crate::put::put_byte;
 use crate::read::find;
-use libc::{STDERR_FILENO, STDIN_FILENO, STDOUT_FILENO};
+use std::io::{Eprint, Read, Write};
 
 // The bytes of a chunk that are not yet taken: from at up to end.
 #[derive(Drop)]
@@ -26,7 +27,13 @@ pub struct Taken {
 }
 
 // Takes the next line and keeps what there is room for: a full line is one that is too long.
-pub fn take_line(chunk: &mut [u8], rest: Span, line: &mut [u8]) -> Taken
+pub fn take_line<R: Read>(
+    rt: &impl Eprint,
+    input: &mut R,
+    chunk: &mut [u8],
+    rest: Span,
+    line: &mut [u8],
+) -> Taken
     requires { Within rest chunk.old }
     ensures { (result.kept ≤ length line.new) × Within result.rest chunk.new }
 {
@@ -37,7 +44,7 @@ pub fn take_line(chunk: &mut [u8], rest: Span, line: &mut [u8]) -> Taken
         if taken.more {
             return taken;
         }
-        let next = next_chunk(chunk);
+        let next = next_chunk(rt, input, chunk);
         if next.end == 0 {
             return taken;
         }
@@ -73,15 +80,17 @@ fn take_part(chunk: &[u8], rest: Span, line: &mut [u8], kept: usize) -> Taken
 }
 
 // Reads the next chunk: nothing at the end of the input, or where it cannot be read, which is then said.
-fn next_chunk(chunk: &mut [u8]) -> Span
+fn next_chunk<R: Read>(rt: &impl Eprint, input: &mut R, chunk: &mut [u8]) -> Span
     ensures { Within result chunk.new }
 {
-    let got = libc::read(STDIN_FILENO, chunk);
-    if got < 0 {
-        io::write_all(STDERR_FILENO, b"the input could not be read\n");
+    match input.read(chunk) {
+        Ok(end) => Span { at: 0, end },
+        Err(_) => {
+            // nobody is left to hear of it where this cannot be said
+            let _ = eprintln!(rt; "the input could not be read");
+            Span { at: 0, end: 0 }
+        }
     }
-    let end = io::count(got, chunk);
-    Span { at: 0, end }
 }
 
 // Appends to the line what there is room for.
@@ -102,16 +111,20 @@ fn least(a: usize, b: usize) -> usize
     if a < b { a } else { b }
 }
 
-// Writes the first n bytes of `out` and a newline, by one write, so that they are seen at once; false where they cannot be written, which is
-// then said. What is written stands in no contract of io, so this one says only what is left in `out`.
-pub fn write_line(out: &mut [u8], n: usize) -> bool
+// Writes the first n bytes of `out` and a newline, by one call, so that they are seen at once; false where they cannot be written, which is then
+// said.
+pub fn write_line<W: Write>(rt: &impl Eprint, output: &mut W, out: &mut [u8], n: usize) -> bool
     requires { n < length out.old }
-    ensures { out.new ≡ put_at out.old n (10 ∷ []) }
+    ensures left { out.new ≡ put_at out.old n (10 ∷ []) }
+    ensures written { result ≡ true → Appends (W.contents output.old) (W.contents output.new) (take (n + 1) out.new) }
 {
     let end = put_byte(out, n, b'\n');
-    let written = io::write_all(STDOUT_FILENO, &out[0..end]);
-    if !written {
-        io::write_all(STDERR_FILENO, b"an answer could not be written\n");
+    match output.write_all(&out[0..end]) {
+        Ok(()) => true,
+        Err(_) => {
+            // nobody is left to hear of it where this cannot be said
+            let _ = eprintln!(rt; "an answer could not be written");
+            false
+        }
     }
-    written
 }

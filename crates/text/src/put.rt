@@ -2,6 +2,8 @@
 ghost use Rattle.std.specs.Prelude.{◌+◌, ◌≤◌, ◌<◌, [], ◌∷◌, map, ◌≡◌, length};
 ghost use Rattle.text.specs.Text.{put_at, bit_character, PutNumber, refused_as};
 
+use crate::decimal::decimal;
+
 pub fn put_byte(out: &mut [u8], n: usize, b: u8) -> usize
     requires { n < length out.old }
     ensures { (result ≡ n + 1) × (out.new ≡ put_at out.old n (b ∷ [])) }
@@ -43,7 +45,7 @@ pub fn put_number(out: &mut [u8], n: usize, number: u64) -> usize
     ensures { PutNumber number n result out.old out.new }
 {
     let mut digits = [0u8; 20];
-    let k = io::decimal(number, &mut digits);
+    let k = decimal(number, &mut digits);
     put_word(out, n, &digits[..k])
 }
 

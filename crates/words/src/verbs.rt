@@ -5,7 +5,7 @@ use crate::fields::{Number, field, fields, read_number};
 use text::{find, same};
 
 // A channel: its blocks are coded to be sent, and decoded as they are received.
-#[derive(Drop)]
+#[derive(Clone, Copy)]
 pub enum Channel {
     Speech,
     Control,
@@ -16,7 +16,7 @@ pub enum Channel {
 }
 
 // What is asked of the streams.
-#[derive(Drop)]
+#[derive(Clone, Copy)]
 pub enum Call {
     Send,
     End,
@@ -26,7 +26,7 @@ pub enum Call {
 }
 
 // What is asked of the hub.
-#[derive(Drop)]
+#[derive(Clone, Copy)]
 pub enum HubCall {
     Enrol,
     Remove,
@@ -34,14 +34,14 @@ pub enum HubCall {
 }
 
 // What is asked of a frame: that it is written, or read.
-#[derive(Drop)]
+#[derive(Clone, Copy)]
 pub enum FrameCall {
     Write,
     Read,
 }
 
 // What a line asks for.
-#[derive(Drop)]
+#[derive(Clone, Copy)]
 pub enum Asks {
     Send(Channel),
     Receive(Channel),

@@ -38,10 +38,10 @@ module _ (holds : ℕ → Bool) where
   -- there is one such place
   pub first_is : (xs : List ℕ) (k : ℕ) → First xs k → first_where holds xs ≡ k
   first_is xs k f =
-      ⊎_elim (λ (l : first_where holds xs < k). let in_List : first_where holds xs < length xs = omega (arith, l, f.within) in
-      absurd (false_true (sym (f.before (first_where holds xs) l) ∙ (first xs).here in_List)))
-      (λ (l : k ≤ first_where holds xs). ⊎_elim (λ (m : k < first_where holds xs). let in_List : k < length xs = omega (arith, m, (first xs).within) in
-      absurd (false_true (sym ((first xs).before k m) ∙ f.here in_List)))
+      ⊎_elim (λ (l : first_where holds xs < k). let in_list : first_where holds xs < length xs = omega (arith, l, f.within) in
+      absurd (false_true (sym (f.before (first_where holds xs) l) ∙ (first xs).here in_list)))
+      (λ (l : k ≤ first_where holds xs). ⊎_elim (λ (m : k < first_where holds xs). let in_list : k < length xs = omega (arith, m, (first xs).within) in
+      absurd (false_true (sym ((first xs).before k m) ∙ f.here in_list)))
       (λ (m : first_where holds xs ≤ k). omega (arith, l, m)) (lt_or_le k (first_where holds xs)))
       (lt_or_le (first_where holds xs) k)
 

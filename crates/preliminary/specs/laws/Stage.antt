@@ -1,5 +1,5 @@
 -- The preliminary stage by its index, as 000, 3.1.1.3 writes it; and what sending wrote is what reception reads: s from w from d.
-use Rattle.std.specs.Prelude.{Bool, true, false, ◌≡◌, refl, ℕ, suc, ◌+◌, ◌-◌, ◌≤◌, ◌<◌, T, leb, length, drop}
+use Rattle.std.specs.Prelude.{zero, Bool, true, false, ◌≡◌, refl, ℕ, suc, ◌+◌, ◌-◌, ◌≤◌, ◌<◌, T, leb, length, drop}
 use mathlib.Core.List.{List, ◌++◌}
 use Rattle.std.proofs.Common.{⊎_elim, sym, ◌∙◌, subst, arith, length-drop, get_or-drop, ext_get_or}
 use Rattle.std.proofs.Math.Path.{ap, ap₂}
@@ -23,6 +23,7 @@ no_copy i = pick (is_one_of copies (in_w (suc i))) false true
 
 pub unrepeated : (k : ℕ) → 1 ≤ k → k ≤ 244 → is_one_of copies (in_w k) ≡ false
 unfolding no_copy copies in_w
+unrepeated zero l h = elim l [ ]
 unrepeated (suc i) l h = is_not (is_one_of copies (in_w (suc i))) (below no_copy 244 tt i h)
   where
     is_not : (b : Bool) → T (pick b false true) → b ≡ false
@@ -147,6 +148,7 @@ module _ (s : List ℕ) where
 
   pub at_w : (x : ℕ) → 1 ≤ x → x ≤ 260 → from1 (efr_w s) x ≡ w_at s (crc_p s) x
   unfolding efr_w
+  at_w zero l h = elim l [ ]
   at_w (suc i) l h = from_suc (efr_w s) i ∙ at_tab 260 (λ i. w_at s (crc_p s) (suc i)) i (omega (arith, h))
 
   pub length_d : length (efr_d s) ≡ 260
@@ -155,6 +157,7 @@ module _ (s : List ℕ) where
 
 pub at_s : (w : List ℕ) (k : ℕ) → 1 ≤ k → k ≤ 244 → from1 (s_of w) k ≡ from1 w (in_w k)
 unfolding s_of
+at_s w zero l h = elim l [ ]
 at_s w (suc i) l h = from_suc (s_of w) i ∙ at_tab 244 (λ i. from1 w (in_w (suc i))) i (omega (arith, h))
 
 pub length_s : (w : List ℕ) → length (s_of w) ≡ 244

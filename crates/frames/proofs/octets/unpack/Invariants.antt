@@ -1,0 +1,11 @@
+use Prim.Native.Nat.{◌-◌, ◌*◌, ◌≤◌}
+use lib.ListN.{length}
+use Rattle.bits.specs.laws.Tab.{Filled}
+use Rattle.frames.specs.laws.Octets.{bit_of}
+use Rattle.frames.proofs.octets.unpack.Given as goal
+
+abbrev pub invariant-loop-o : goal.invariant-loop-o
+invariant-loop-o l = (l.o ≤ length l.octets) × Filled (bit_of l.octets) (8 * length l.octets) (8 * l.o) l.bits
+
+abbrev pub decreases-loop-o : goal.decreases-loop-o
+decreases-loop-o l = length l.octets - l.o

@@ -1,0 +1,15 @@
+-- `preliminary::fill_w` is right: the repeated bits, the rest of s, and the CRC.
+use Rattle.preliminary.specs.laws.Parts.{w_laid}
+use borrow.Author.Rules.{rules}
+use Rattle.preliminary.proofs.fill_w.Goals as goal
+
+pub put_crc-requires : goal.put_crc-requires
+put_crc-requires c =
+    (c.requires.0, c.requires.1, search rules)
+
+pub returns : goal.returns
+returns c =
+    let y₁ = c.repeat_bits in
+    let y₂ = c.copy in
+    let y₃ = c.put_crc in
+    w_laid c.args.s.now c.requires.1 c.requires.0 c.args.w.now y₁.new.w y₂.new.to y₃.new.p c.requires.2 y₁.ensures y₂.ensures y₃.ensures

@@ -1,0 +1,9 @@
+-- `preliminary::fill_word` is right: the 65 bits, then the eight.
+use Rattle.preliminary.specs.laws.Parts.{word_laid}
+use Rattle.preliminary.proofs.fill_word.Goals as goal
+
+pub returns : goal.returns
+returns c =
+    let x = c.fetch_important in
+    let y = c.copy in
+    word_laid c.args.s.now c.args.behind.now c.args.word.now x.new.b y.new.to c.requires.2 x.ensures y.ensures
