@@ -12,18 +12,18 @@ name_folders() {
 # Links to the commands that the scripts call themselves.
 make_few() {
     mkdir -p "$few"
-    for command in sh cat cp dirname env find flock grep head mkdir mktemp readlink rm sed sha256sum sleep sort tail tee timeout touch tr uname; do
+    for command in sh cat chmod cp dirname env find flock grep head mkdir mktemp readlink rm sed sha256sum sleep sort tail tee timeout touch tr uname; do
         ln -sf "$(command -v "$command")" "$few/$command"
     done
 }
 
-# The scripts, one crate, and a folder target that nothing may touch.
+# The scripts, crates, and a folder target that nothing may touch.
 make_copy() {
-    mkdir -p "$copy/crates/one/src" "$copy/target"
+    mkdir -p "$copy/crates/one/src" "$copy/crates/kit/src" "$copy/crates/access_sheet/src" "$copy/target"
     cp -r kit sheet desk test host VERSION toolchain.txt "$copy"
     : >"$copy/target/kept"
     printf 'one:\n' >"$copy/crates.txt"
-    printf '// nothing\n' >"$copy/crates/one/src/lib.rt"
+    for file in one/src/lib kit/src/main access_sheet/src/main; do printf '// nothing\n' >"$copy/crates/$file.rt"; done
 }
 
 # A command that is a script.
@@ -33,26 +33,35 @@ stand_in() { # NAME < TEXT
     chmod +x "$fake/$1"
 }
 
-# A toolchain whose proofs are words, and whose programs say what they read. It notes what it is asked for.
+# A toolchain whose proofs are words, and whose programs say what they read. It notes what it is asked for, and where. On the whole it says what stands in
+# the file whole.
 make_toolchain() {
     mkdir -p "$fake" && cp toolchain.txt "$fake/version"
     stand_in bin/rt <<EOF
-echo "rt \$*" >>"$fake/asked"
+here=\${PWD##*/}
+echo "rt \$* in \$here" >>"$fake/asked"
+build() {
+    mkdir -p out
+    printf '#!/bin/sh\\nexec cat\\n' >"out/\$1"
+    chmod +x "out/\$1"
+}
 case \$1 in
-doc) echo "$fake/docs/START-HERE.md" ;;
 version) cat "$fake/version" ;;
-check)
-    [ ! -f "$fake/wrong" ] || { echo "rt: one NOT PROVED (exit 1, 2 s)"; exit 1; }
-    mkdir -p target/bin
-    echo "rt: one proved (2 s)"
+run)
+    echo "crate one: modules loaded=0 checked=1"
+    [ ! -f "$fake/wrong" ] || { echo "logic=not-proved"; exit 1; }
     echo "logic=proved functions=1"
-    echo cat >"target/bin/\$2"
-    echo "rt: \$2 proved (3 s)"
+    echo "crate \$here: modules loaded=1 checked=1"
+    echo "axioms std: none reached of the 2 declared"
+    echo "logic=proved functions=2"
+    build "\$here"
+    ;;
+ci)
+    (cd crates/kit && build kit)
+    cat "$fake/whole"
+    tail -n 1 "$fake/whole" | grep -q ' 0 failed$'
     ;;
 esac
-EOF
-    stand_in "on/$(uname -m)/toolchain/lib/ld-linux-x86-64.so.2" <<'EOF'
-exec sh "$3"
 EOF
 }
 
@@ -161,15 +170,23 @@ Needed is the version '$(cat toolchain.txt)', with its command rt on the PATH; w
 # Each crate is named as it is done; what is proved already starts at once; what changed is proved again.
 shows_crates() {
     first="proving and building the program kit: some minutes the first time; each crate is named when it is done
-    one proved (2 s)
-    kit proved (3 s)"
-    run_with "$few:$fake/bin" "$copy/kit" && ended 0 '' "$first" && grep -qx 'rt check kit' "$fake/asked" || return 1
-    run_with "$few:$fake/bin" "$copy/kit" && ended 0 '' '' && ! grep -q 'rt check' "$fake/asked" || return 1
+    one proved
+    kit proved"
+    run_with "$few:$fake/bin" "$copy/kit" && ended 0 '' "$first" && grep -qx 'rt run in kit' "$fake/asked" || return 1
+    run_with "$few:$fake/bin" "$copy/kit" && ended 0 '' '' && ! grep -q 'rt run' "$fake/asked" || return 1
     printf '// something\n' >"$copy/crates/one/src/lib.rt"
     run_with "$few:$fake/bin" "$copy/kit" && ended 0 '' "$first" || return 1
     run_with "$few:$fake/bin" "$copy/sheet" && ended 0 '' "proving and building the program access_sheet: some minutes the first time; each crate is named when it is done
-    one proved (2 s)
-    access_sheet proved (3 s)"
+    one proved
+    access_sheet proved"
+}
+
+# What another command has put in the place of a program is not run.
+runs_no_other() {
+    printf '#!/bin/sh\necho another\n' >"$copy/crates/kit/out/kit"
+    run_with "$few:$fake/bin" "$copy/kit" && ended 0 '' "proving and building the program kit: some minutes the first time; each crate is named when it is done
+    one proved
+    kit proved"
 }
 
 # A proof that fails is shown whole.
@@ -179,7 +196,8 @@ shows_failure() {
     run_with "$few:$fake/bin" "$copy/kit"
     rm "$fake/wrong"
     ended 1 '' "proving and building the program kit: some minutes the first time; each crate is named when it is done
-rt: one NOT PROVED (exit 1, 2 s)
+crate one: modules loaded=0 checked=1
+logic=not-proved
 rt ended with status 1"
 }
 
@@ -189,11 +207,38 @@ notes_another_toolchain() {
     run_with "$few:$fake/bin" "$copy/kit"
     ended 0 '' "note: proved with the toolchain '$(cat toolchain.txt)'; the one here is 'other'
 proving and building the program kit: some minutes the first time; each crate is named when it is done
-    one proved (2 s)
-    kit proved (3 s)" && run_with "$few:$fake/bin" env DAMASQUEL_ALONE=yes "$copy/kit" && ended 0 '' ''
+    one proved
+    kit proved" && run_with "$few:$fake/bin" env DAMASQUEL_ALONE=yes "$copy/kit" && ended 0 '' ''
     said=$?
     cp toolchain.txt "$fake/version"
     return "$said"
+}
+
+# What the gate makes of rt's word on the whole, which it asks for once: its first failure after rt's own. There is no rustc, so that it ends there at the latest.
+gate_fails() { # RT'S-LINE RT'S-TALLY FAILURE
+    { say "$1" && say "$2"; } >"$fake/whole"
+    say 1000 >"$fake/user"
+    run_with "$few:$fake/bin" "$copy/test"
+    [ "$status" -eq 1 ] && [ "$(grep -c '^rt ci' "$fake/asked")" -eq 1 ] && grep -qx 'rt ci in copy' "$fake/asked" &&
+        [ "$(sed -n 's/^FAILED: //p' "$room/out" | head -n 1)" = "$3" ] && return 0
+    head -c 600 "$room/out" && return 1
+}
+
+# rt passes must-fail edits that show nothing, and the gate does not.
+refuses_bad_edits() {
+    well='rt: ok; handles allowed: none; must-fail edits: 83 refused' all='every proof and must-fail edit was done in this run' none='rustc, to compile the reference'
+    gate_fails "$well; $all" '99 passed, 0 failed' "$none" && gate_fails "$well, 0 bad; $all" '99 passed, 0 failed' "$none" &&
+        gate_fails "$well, 1 bad; $all" '99 passed, 0 failed' 'bad must-fail edits: 1' &&
+        gate_fails "$well, 2 of them only by a limit, 10 bad; $all" '99 passed, 0 failed' 'bad must-fail edits: 10' &&
+        gate_fails 'rt: well' '99 passed, 0 failed' 'rt ci did not say that all is well' && gate_fails "rt: FAILED: one" '99 passed, 1 failed' '' &&
+        [ "$(tail -n 1 "$room/out")" = '99 passed, 1 failed' ] && gate_fails "$well; $all" 'rt: nothing more' 'rt ci gave no tally'
+}
+
+# What rt ci has built is not built again.
+takes_from_gate() {
+    printf '// something else\n' >"$copy/crates/one/src/lib.rt"
+    gate_fails 'rt: ok; handles allowed: none; every proof was done in this run' '3 passed, 0 failed' 'rustc, to compile the reference' || return 1
+    run_with "$few:$fake/bin" "$copy/kit" && ended 0 '' '' && ! grep -q 'rt run' "$fake/asked"
 }
 
 # A second run says that another one is running, and goes on when it is done.
@@ -331,12 +376,13 @@ test_scripts() {
     try_script "each script refuses another argument, and does nothing" refuses_others
     try_script "a script works from another folder and by a link" works_by_link
     try_script "a script says what rt is, where it is missing" says_what_is_missing
-    mv "$fake/bin/uname" "$fake/bin/id" "$fake" # the toolchain's stand-in is for this machine
     try_script "each crate is named when it is proved, and what is proved starts at once" shows_crates
+    try_script "what stands in the place of a program is not run" runs_no_other
     try_script "a proof that fails is shown" shows_failure
+    try_script "the gate fails where rt does, and where a must-fail edit is bad" refuses_bad_edits
+    try_script "what the gate has built starts at once" takes_from_gate
     try_script "another toolchain is said" notes_another_toolchain
     try_script "a second run says that it waits" waits_for_another
-    mv "$fake/uname" "$fake/id" "$fake/bin"
     try_script "nothing is installed that is there" installs_nothing_twice
     try_script "what is installed is said before" installs_what_is_missing
     try_script "nothing is upgraded" upgrades_nothing

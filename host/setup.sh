@@ -42,8 +42,6 @@ find_toolchain() {
         complain "Needed is the version '$pinned', with its command rt on the PATH; with another version the scripts say so and go on."
         return 1
     fi
-    rattle_home=$(dirname "$(dirname "$(rt doc)")")
-    tools=$rattle_home/on/$(uname -m)/toolchain
     here=$(rt version)
     # a run that another one started is part of it, and that one has said it
     [ "$here" = "$pinned" ] || [ -n "${DAMASQUEL_ALONE:-}" ] || complain "note: proved with the toolchain '$pinned'; the one here is '$here'"
@@ -68,16 +66,25 @@ end_alone() { exec 9<&-; }
 
 # One number for all that the proofs depend on.
 sources() {
-    { rt version && cat crates.txt && find crates -type f ! -path '*/must-fail/*' -exec sha256sum {} + | sort; } | sha256sum
+    { rt version && cat crates.txt && find crates -regex 'crates/[^/]*/\(out\|must-fail\)' -prune -o -type f -exec sha256sum {} + | sort; } | sha256sum
 }
 
-# Is the file there, and was it made from what the sources are now?
-is_made() { [ -f "$1" ] && [ "$(cat "$1.made" 2>/dev/null)" = "$2" ]; } # FILE SOURCES
+# What is noted of a file beside it: the sources as they were when it was made, and the file itself, which rt may make anew without us.
+made_of() { say "$2, $(sha256sum <"$1")"; } # FILE SOURCES
 
-# Runs rt and shows each crate as it is done; where it fails, all that it said.
-show_crates() { # RT-WORD...
+# Is the file there, and was it made from what the sources are now?
+is_made() { [ -f "$1" ] && [ "$(cat "$1.made" 2>/dev/null)" = "$(made_of "$1" "$2")" ]; } # FILE SOURCES
+
+# Notes that the file was made from these sources, unless they have changed since they were read.
+note_made() { [ "$(sources)" != "$2" ] || made_of "$1" "$2" >"$1.made"; } # FILE SOURCES
+
+# Of what rt says, a line for each crate that is proved.
+proved_crates() { sed -u -n -e '/^crate \([^ ]*\): modules .*/ { s//    \1 proved/; h; }' -e '/^logic=proved / { x; p; }'; }
+
+# Runs rt in a crate's folder, with no input, and shows each crate as it is done; where it fails, all that it said.
+show_crates() { # CRATE RT-WORD
     log=$(mktemp) || return 1
-    { rt "$@" </dev/null 2>&1; say "rt ended with status $?"; } | tee "$log" | sed -u -n 's/^rt: \(.* proved .*\)/    \1/p' >&2
+    { (cd "crates/$1" && rt "$2" </dev/null 2>&1); say "rt ended with status $?"; } | tee "$log" | proved_crates >&2
     case $(tail -n 1 "$log") in
     'rt ended with status 0') status=0 ;;
     *) cat "$log" >&2 && status=1 ;;
@@ -87,27 +94,36 @@ show_crates() { # RT-WORD...
 }
 
 # Proves and builds what is not made from the sources as they are.
-make_proved() { # FILE WHAT RT-WORD...
-    file=$1 what=$2
-    shift 2
+make_proved() { # FILE WHAT CRATE RT-WORD BUILT
+    file=$1 what=$2 crate=$3 word=$4 built=crates/$3/out/$5
     begin_alone || return 1
     now=$(sources)
     if ! is_made "$file" "$now"; then
         complain "proving and building $what: some minutes the first time; each crate is named when it is done"
-        show_crates "$@" || return 1
-        say "$now" >"$file.made"
+        rm -f "$file.made"
+        show_crates "$crate" "$word" || return 1
+        [ "$file" = "$built" ] || { mkdir -p "$(dirname "$file")" && cp "$built" "$file"; } || return 1
+        note_made "$file" "$now"
     fi
 }
 
-prove_program() { make_proved "target/bin/$1" "the program $1" check "$1"; }               # NAME
-prove_library() { make_proved "target/staticlib/lib$1.a" "the library $1" staticlib "$1"; } # NAME
+# rt builds a program in order to run it, here on an empty input, and leaves it in the crate's folder out.
+prove_program() { make_proved "crates/$1/out/$1" "the program $1" "$1" run "$1"; } # NAME
 
-# Runs target/bin/NAME, an x86-64 program: directly, or under the toolchain's emulator on another processor. A closed pipe ends it.
-run_proved() { # NAME
-    emulator=$tools/bin/qemu-x86_64
-    [ -x "$emulator" ] || emulator=''
-    env --default-signal=PIPE ${emulator:+"$emulator"} "$tools/lib/ld-linux-x86-64.so.2" --library-path "$tools/lib" "target/bin/$1"
+# The crate NAME_c exports the library NAME to C, whose hosts link it as libNAME.a.
+prove_library() { make_proved "target/staticlib/lib$1.a" "the library $1" "$1_c" lib "lib$1_c.a"; } # NAME
+
+# After rt ci: the programs that it has built of these sources need not be built again.
+note_programs() { # SOURCES
+    for main in crates/*/src/main.rt; do
+        program=${main#crates/}
+        program=${program%%/*}
+        [ ! -f "crates/$program/out/$program" ] || note_made "crates/$program/out/$program" "$1"
+    done
 }
+
+# Runs a proved program, which its script has built.
+run_proved() { "crates/$1/out/$1"; } # NAME
 
 # Runs a proved program, which has no status of its own: what it says on standard error is that something could not be read or written.
 run_to_its_end() { # SCRIPT NAME
@@ -233,12 +249,12 @@ need_speed_tools() {
 }
 
 # One number for all that the desk program is built from.
-desk_sources() { cat target/staticlib/libdesk.a.made host/desk/desk.c host/desk/desk.h host/setup.sh | sha256sum; }
+desk_sources() { cat target/staticlib/libdesk.a host/desk/desk.c host/desk/desk.h host/setup.sh | sha256sum; }
 
 # The desk program, in C over the proved library desk.
 build_desk() { # OUT
     prove_library desk || return 1
-    is_made "$1" "$(desk_sources)" || { need_c && build_c "$1" host/desk/desk.c target/staticlib/libdesk.a && desk_sources >"$1.made"; }
+    is_made "$1" "$(desk_sources)" || { need_c && build_c "$1" host/desk/desk.c target/staticlib/libdesk.a && made_of "$1" "$(desk_sources)" >"$1.made"; }
 }
 
 # Builds a program in C.

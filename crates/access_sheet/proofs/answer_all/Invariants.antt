@@ -1,0 +1,10 @@
+-- `answer_all` ends, since its turns are counted, and each line that it answers is within what was taken. Assumes nothing.
+use Rattle.std.proofs.Common.{◌≡◌, length}
+use Rattle.text.specs.Within.{Within}
+use Rattle.access_sheet.proofs.answer_all.Given as goal
+
+abbrev pub invariant-loop-turns : goal.invariant-loop-turns
+invariant-loop-turns l = Within l.rest l.chunk × (length l.chunk ≡ length l.initial.chunk) × (length l.line ≡ length l.initial.line)
+
+abbrev pub decreases-loop-turns : goal.decreases-loop-turns
+decreases-loop-turns l = l.turns
