@@ -97,7 +97,7 @@ static inline uint32_t desk_count(uint32_t answer)
 
 /*
  * The reason of a number in words, those of the table of refusals in README.md; never null. It knows the numbers of the streams too,
- * 4 to 7 and 9, 10, of enhanced full rate, those of the hub, 14 to 17, and those of frames, 18 and 19, which the calls below never give and the kit does.
+ * 4 to 7 and 9, 10, of enhanced full rate, and those of the hub, 14 to 17, which the calls below never give and the kit does.
  */
 static inline const char *desk_reason(uint32_t number)
 {
@@ -132,10 +132,6 @@ static inline const char *desk_reason(uint32_t number)
         return "the place is empty, or over 29";
     case 17:
         return "no identity at the hub accepts the burst";
-    case 18:
-        return "a sync bit or a fixed bit of the frame is wrong";
-    case 19:
-        return "C1 to C5 are neither full rate speech type, 00010 or 11100";
     default:
         return "no refusal has this number";
     }

@@ -74,7 +74,7 @@ mod tests {
         let words = words().join(" ");
         let expected = "speech control sacch access sch efr \
             speech? control? sacch? access? sch? efr? whose mark \
-            send end take totals enrol remove hear frame frame? fresh lend trellis help why";
+            send end take totals enrol remove hear fresh lend trellis help why";
         assert_eq!(words, expected);
     }
 
@@ -116,12 +116,6 @@ mod tests {
         let hear = "hear R: of 36 received bits, 2 for a missing one, PLACE, COUNT and the 8 bits \
                     of the nearest block, for the place whose identity accepts them";
         assert_eq!(help(b"hear").as_deref(), Some(hear));
-        let frame = "frame C D: the 40 octets, 80 hexadecimal digits, of the frame of GSM 08.60 \
-                     that carries the 21 control bits C and the 260 bits D of full rate speech";
-        assert_eq!(help(b"frame").as_deref(), Some(frame));
-        let asked = "frame? HEX: of the octets HEX, C and D: the 21 control bits of the frame and \
-                     its 260 bits of full rate speech";
-        assert_eq!(help(b"frame?").as_deref(), Some(asked));
         let fresh = "fresh: fresh; both streams and the hub begin anew";
         assert_eq!(help(b"fresh").as_deref(), Some(fresh));
     }
@@ -136,8 +130,8 @@ mod tests {
     }
 
     #[test]
-    fn the_sixteen_refusals_are_told_in_words() {
-        let numbers = (1..=10).chain(14..=19);
+    fn the_fourteen_refusals_are_told_in_words() {
+        let numbers = (1..=10).chain(14..=17);
         let told: Vec<String> = numbers.map(|refusal| why(refusal).unwrap()).collect();
         let expected = [
             "a buffer has the wrong length",
@@ -154,12 +148,10 @@ mod tests {
             "all 30 places of the hub are in use",
             "the place is empty, or over 29",
             "no identity at the hub accepts the burst",
-            "a sync bit or a fixed bit of the frame is wrong",
-            "C1 to C5 are neither full rate speech type, 00010 or 11100",
         ];
         assert_eq!(told, expected);
-        assert_eq!(refusals().len(), 16);
-        for number in [0, 11, 12, 13, 20, 21, 90, 100, 257, 275, 65_535] {
+        assert_eq!(refusals().len(), 14);
+        for number in [0, 11, 12, 13, 18, 19, 90, 100, 257, 270, 65_535] {
             assert_eq!(why(number), None, "{}", number);
         }
     }

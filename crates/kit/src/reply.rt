@@ -25,10 +25,16 @@ pub fn reply(streams: Streams, line: &[u8], written: &mut [u8]) -> Said
         return reply_lent(streams, line, written);
     }
     let k = row_of(line);
+    if let Asks::Frame(asked) = asked_by(k) {
+        return Said {
+            answer: answer_frame(asked, line, written),
+            streams,
+        };
+    }
     let end = writes(verb_at(k));
     match number_of(line, verb_at(k)) {
         Number::Bad => unknown(streams),
-        Number::Is(number) => answer_verb(streams, k, number, line, written, end),
+        Number::Is(number) => answer_verb(streams, k, number, line, &mut written[0..end]),
     }
 }
 
@@ -47,7 +53,7 @@ fn reply_lent(streams: Streams, line: &[u8], written: &mut [u8]) -> Said
         Number::Bad => unknown(streams),
         Number::Is(number) => {
             fill(written, byte);
-            let said = answer_verb(streams, k, number, rest, written, n);
+            let said = answer_verb(streams, k, number, rest, &mut written[0..n]);
             let answer = said.answer;
             let after = said.streams;
             Said {
@@ -100,31 +106,16 @@ fn number_of(line: &[u8], verb: Verb) -> Number {
     read_number(field(line, place))
 }
 
-// The answer to the verb of row k: the line's bits are read, and the first `lent` bytes of the buffer are lent for what the verb writes.
-fn answer_verb(
-    streams: Streams,
-    k: usize,
-    number: u16,
-    line: &[u8],
-    written: &mut [u8],
-    lent: usize,
-) -> Said
-    requires { (length line.now ≤ 1000) × (600 ≤ length written.old) × (lent ≤ 600) }
+// The answer to the verb of row k: the line's bits are read, and room for what the verb writes is lent.
+fn answer_verb(streams: Streams, k: usize, number: u16, line: &[u8], lent: &mut [u8]) -> Said
+    requires { length line.now ≤ 1000 }
 {
     let mut read = [0u8; 1000];
     let n = read_bits(field(line, place_of(b'b', verb_at(k))), &mut read);
-    answer(
-        streams,
-        asked_by(k),
-        line,
-        number,
-        &read[0..n],
-        written,
-        lent,
-    )
+    answer(streams, asked_by(k), line, number, &read[0..n], lent)
 }
 
-// The answer to what a line asks for, with its number and its bits; no line lends for a frame, which has the whole buffer.
+// The answer to what a line asks for, with its number and its bits.
 fn answer(
     streams: Streams,
     asks: Asks,
@@ -132,22 +123,21 @@ fn answer(
     number: u16,
     read: &[u8],
     written: &mut [u8],
-    lent: usize,
 ) -> Said
-    requires { (length line.now ≤ 1000) × (600 ≤ length written.old) × (lent ≤ 600) }
+    requires { length line.now ≤ 1000 }
 {
     match asks {
         Asks::Send(channel) => {
-            let told = send(channel, number, read, &mut written[0..lent]);
+            let told = send(channel, number, read, written);
             Said {
-                answer: Answer::of_returned(answers::of_told(told), lent),
+                answer: Answer::of_returned(answers::of_told(told), written.len()),
                 streams,
             }
         }
         Asks::Receive(channel) => {
-            let returned = receive(channel, number, read, &mut written[0..lent]);
+            let returned = receive(channel, number, read, written);
             Said {
-                answer: Answer::of_returned(returned, lent),
+                answer: Answer::of_returned(returned, written.len()),
                 streams,
             }
         }
@@ -163,12 +153,9 @@ fn answer(
             answer: Answer::of_view(coder::view_trellis(read)),
             streams,
         },
-        Asks::Stream(asked) => call(streams, asked, number, read, &mut written[0..lent]),
-        Asks::Hub(asked) => call_hub(streams, asked, number, read, &mut written[0..lent]),
-        Asks::Frame(asked) => Said {
-            answer: answer_frame(asked, line, read, written),
-            streams,
-        },
-        Asks::Nothing => unknown(streams),
+        Asks::Stream(asked) => call(streams, asked, number, read, written),
+        Asks::Hub(asked) => call_hub(streams, asked, number, read, written),
+        // a frame is answered before: it asks for the whole buffer
+        Asks::Frame(_) | Asks::Nothing => unknown(streams),
     }
 }

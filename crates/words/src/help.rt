@@ -64,7 +64,7 @@ fn why(line: &[u8]) -> Question {
 fn line_of_reason(number: usize) -> usize {
     match number {
         1..=10 => number - 1,
-        14..=19 => number - 4,
+        14..=17 => number - 4,
         _ => REFUSALS,
     }
 }

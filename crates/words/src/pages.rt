@@ -2,17 +2,17 @@
 ghost use Rattle.std.specs.Prelude.{◌≡◌, length};
 
 // How many words there are.
-pub const WORDS: usize = 28;
+pub const WORDS: usize = 26;
 
 // How many refusals there are.
-pub const REFUSALS: usize = 16;
+pub const REFUSALS: usize = 14;
 
 // The words.
-const ALL: [u8; 168] =
-    *b"speech control sacch access sch efr speech? control? sacch? access? sch? efr? whose mark send end take totals enrol remove hear frame frame? fresh lend trellis help why";
+const ALL: [u8; 155] =
+    *b"speech control sacch access sch efr speech? control? sacch? access? sch? efr? whose mark send end take totals enrol remove hear fresh lend trellis help why";
 
 // A line for each word, in the same order: what stands after it, and what it answers.
-const HELP: [u8; 2861] = *b"speech D: the 456 coded bits of the 260 bits D
+const HELP: [u8; 2602] = *b"speech D: the 456 coded bits of the 260 bits D
 control D: the 456 coded bits of the 184 bits D
 sacch D: the 464 bits of four bursts that carry the 184 bits D
 access ID D: the 36 bits of an access burst that carries the 8 bits D, for the identity ID
@@ -33,16 +33,14 @@ totals: four numbers of all that is taken: good speech blocks, good FACCH blocks
 enrol ID: PLACE, 0 to 29: the smallest free place of the hub, at which the identity ID then stands
 remove PLACE: removed; the place is free again
 hear R: of 36 received bits, 2 for a missing one, PLACE, COUNT and the 8 bits of the nearest block, for the place whose identity accepts them
-frame C D: the 40 octets, 80 hexadecimal digits, of the frame of GSM 08.60 that carries the 21 control bits C and the 260 bits D of full rate speech
-frame? HEX: of the octets HEX, C and D: the 21 control bits of the frame and its 260 bits of full rate speech
 fresh: fresh; both streams and the hub begin anew
 lend N B LINE: what LINE answers when it is lent N bytes, 0 to 600, each the digit B; in the place of its bits stands the whole buffer, or -
 trellis R: of up to 456 received bits, 2 for a missing one, by state: the fewest disagreements of any bits that end there, or 65535; R may be left out
 help WORD: what stands after WORD, and what it answers; help alone lists the words
 why N: refusal N in words";
 
-// A line for each refusal, in the order of their numbers: 1 to 10, and 14 to 19.
-const REASONS: [u8; 678] = *b"a buffer has the wrong length
+// A line for each refusal, in the order of their numbers: 1 to 10, and 14 to 17.
+const REASONS: [u8; 571] = *b"a buffer has the wrong length
 a bit is neither 0 nor 1, nor 2 for missing on reception
 the identity is over 63
 the burst is not the next one
@@ -55,24 +53,22 @@ the parity of enhanced full rate is good and its CRC is bad
 the identity stands at a place of the hub already
 all 30 places of the hub are in use
 the place is empty, or over 29
-no identity at the hub accepts the burst
-a sync bit or a fixed bit of the frame is wrong
-C1 to C5 are neither full rate speech type, 00010 or 11100";
+no identity at the hub accepts the burst";
 
-pub fn all_words() -> [u8; 168]
-    ensures { 168 ≡ length result }
+pub fn all_words() -> [u8; 155]
+    ensures { 155 ≡ length result }
 {
     ALL
 }
 
-pub fn help_page() -> [u8; 2861]
-    ensures { 2861 ≡ length result }
+pub fn help_page() -> [u8; 2602]
+    ensures { 2602 ≡ length result }
 {
     HELP
 }
 
-pub fn reasons_page() -> [u8; 678]
-    ensures { 678 ≡ length result }
+pub fn reasons_page() -> [u8; 571]
+    ensures { 571 ≡ length result }
 {
     REASONS
 }
