@@ -9,7 +9,13 @@ use text::{Span, digit, put_number, same, take_line, write_line};
 fn main(rt: HostRuntime) {
     let mut chunk = [0u8; 4096];
     let mut line = [0u8; 80];
-    let taken = take_line(&rt, &mut rt.stdin(), &mut chunk, Span { at: 0, end: 0 }, &mut line);
+    let taken = take_line(
+        &rt,
+        &mut rt.stdin(),
+        &mut chunk,
+        Span { at: 0, end: 0 },
+        &mut line,
+    );
     let kept = taken.kept;
     run(&rt, &line[0..kept]);
 }

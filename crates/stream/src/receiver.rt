@@ -9,7 +9,7 @@ use burst::{BlockNumber, BurstNumber, Ending};
 use chart::{Taken, Totals};
 
 // The number of the next burst; the last eight bursts, of which burst B stands at 116 (B mod 8); and the chart's totals (02, M-100).
-#[derive(Drop)]
+#[derive(Clone, Copy)]
 pub struct Receiver {
     next: BurstNumber,
     held: [u8; 928],

@@ -10,7 +10,7 @@ use answers::{Refusal, Told};
 use burst::BlockNumber;
 
 // How many blocks are sent, whether the stream is ended, and the last block, which is still to go on, with its kind.
-#[derive(Drop)]
+#[derive(Clone, Copy)]
 pub struct Sender {
     sent: BlockNumber,
     ended: bool,
