@@ -14,9 +14,9 @@ received() { sed -n "s/^$1 = //p" $tables | in_numbers; } # NAME
 
 # The rows as the reference prints them: six from the tenth on begin with the received bits.
 examples_in_table() {
-    said | sed -e "10s/^/$(received tied) /" -e "11s/^/$(received fourAway) /" \
-        -e "12s/^/$(received lossyTied) /" -e "13s/^/$(received nothingCame) /" \
-        -e "14s/^/$(received evenGone) /" -e "15s/^/$(received pairsGone) /"
+    said | sed -e "10s/^/$(received tied) /" -e "11s/^/$(received four_away) /" \
+        -e "12s/^/$(received lossy_tied) /" -e "13s/^/$(received nothing_came) /" \
+        -e "14s/^/$(received even_gone) /" -e "15s/^/$(received pairs_gone) /"
 }
 
 # The tables have all that the reference works out, and nothing else.

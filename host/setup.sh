@@ -34,6 +34,9 @@ options() { # USAGE ARGUMENT...
 
 # ---- the toolchain
 
+# rt is given no input anywhere here: it does not even start on one that cannot be read.
+rt_version() { rt version </dev/null; }
+
 # The Rattle toolchain must be here already; everything else is installed.
 find_toolchain() {
     pinned=$(cat toolchain.txt)
@@ -42,7 +45,7 @@ find_toolchain() {
         complain "Needed is the version '$pinned', with its command rt on the PATH; with another version the scripts say so and go on."
         return 1
     fi
-    here=$(rt version)
+    here=$(rt_version)
     # a run that another one started is part of it, and that one has said it
     [ "$here" = "$pinned" ] || [ -n "${DAMASQUEL_ALONE:-}" ] || complain "note: proved with the toolchain '$pinned'; the one here is '$here'"
 }
@@ -64,9 +67,10 @@ end_alone() { exec 9<&-; }
 
 # ---- proofs
 
-# One number for all that the proofs depend on.
+# One number for all that the proofs depend on; none where that cannot be told.
 sources() {
-    { rt version && cat crates.txt && find crates -regex 'crates/[^/]*/\(out\|must-fail\)' -prune -o -type f -exec sha256sum {} + | sort; } | sha256sum
+    of=$(rt_version && cat crates.txt && find crates -regex 'crates/[^/]*/\(out\|must-fail\)' -prune -o -type f -exec sha256sum {} + | sort) || return 1
+    say "$of" | sha256sum
 }
 
 # What is noted of a file beside it: the sources as they were when it was made, and the file itself, which rt may make anew without us.
@@ -96,8 +100,7 @@ show_crates() { # CRATE RT-WORD
 # Proves and builds what is not made from the sources as they are.
 make_proved() { # FILE WHAT CRATE RT-WORD BUILT
     file=$1 what=$2 crate=$3 word=$4 built=crates/$3/out/$5
-    begin_alone || return 1
-    now=$(sources)
+    begin_alone && now=$(sources) || return 1
     if ! is_made "$file" "$now"; then
         complain "proving and building $what: some minutes the first time; each crate is named when it is done"
         rm -f "$file.made"
