@@ -369,9 +369,6 @@ frame_lines() {
     for line in 'frame' 'frame ' 'frame?' 'frame?  ' "frame $up" "frame $up $(zeros 260) " "frame $up  $(zeros 260)" "frame $up $(zeros 260) 0" "Frame $up $(zeros 260)" "frame?? $(octets)"; do say "$line => ?"; done
     # neither is lent a buffer
     for line in "40 7 frame $up $(zeros 260)" "80 7 frame $up $(zeros 260)" "260 7 frame? $(octets)" "0 7 frame? 00" '40 7 frame  '; do say "lend $line => ?"; done
-    say "why 18 => a sync bit or a fixed bit of the frame is wrong"
-    say "why 19 => C1 to C5 are neither full rate speech type, 00010 or 11100"
-    say "why 20 => ?"
 }
 
 # The bursts of a stream of one block.

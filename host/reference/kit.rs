@@ -1146,8 +1146,6 @@ mod tests {
             "mark access {0*36} {0*18} 0",
             "enrol 63",
             "hear {0*36}",
-            "frame 00010{0*16} {1*260}",
-            "frame? 00008800{80ff*17}800f",
             "Fresh",
             send,
             "remove 0",
@@ -1156,7 +1154,7 @@ mod tests {
             second,
             "end",
         ]);
-        let kept = [0, 2, 11, 15, 16].map(|k| between[k].clone());
+        let kept = [0, 2, 9, 13, 14].map(|k| between[k].clone());
         assert_eq!(kept[..], alone[..]);
     }
 
@@ -1373,14 +1371,14 @@ mod tests {
         }
     }
 
-    /// The words of the kit's verbs, in the order of the handbook.
+    /// The words of the kit's verbs, in the order of the handbook. Those of frames are not among
+    /// them: their lines are understood, but the handbook has no rows for them yet.
     fn verbs() -> Vec<String> {
         let channels = CHANNELS.map(|channel| channel.name.to_string());
         let asked = CHANNELS.map(|channel| format!("{}?", channel.name));
         let of_nearest = ["whose", "mark"].map(String::from);
         let of_streams = ["send", "end", "take", "totals"].map(String::from);
         let of_hub = ["enrol", "remove", "hear"].map(String::from);
-        let of_frames = ["frame", "frame?"].map(String::from);
         let others = ["fresh", "lend", "trellis", "help", "why"].map(String::from);
         [
             &channels[..],
@@ -1388,7 +1386,6 @@ mod tests {
             &of_nearest,
             &of_streams,
             &of_hub,
-            &of_frames,
             &others,
         ]
         .concat()
@@ -1404,8 +1401,7 @@ mod tests {
         let fill_in = |field| match field {
             "WORD" | "LINE" => "end",
             "CHANNEL" => "access",
-            "ID" | "PLACE" | "N" | "B" | "C" | "D" | "E" | "R" | "U" | "COUNT" => "1",
-            "HEX" => "7f",
+            "ID" | "PLACE" | "N" | "B" | "D" | "E" | "R" | "U" | "COUNT" => "1",
             word => word,
         };
         let fields: Vec<&str> = line.split(' ').map(fill_in).collect();
@@ -1460,18 +1456,13 @@ mod tests {
             ("why 015", "all 30 places of the hub are in use"),
             ("why 16", "the place is empty, or over 29"),
             ("why 00017", "no identity at the hub accepts the burst"),
-            ("why 18", "a sync bit or a fixed bit of the frame is wrong"),
-            (
-                "why 019",
-                "C1 to C5 are neither full rate speech type, 00010 or 11100",
-            ),
         ]);
     }
 
     #[test]
     fn why_has_the_number_of_a_refusal() {
         not_understood(&["why", "why ", "why  ", "why 0", "why 00000"]);
-        not_understood(&["why 11", "why 12", "why 13", "why 20", "why 21", "why 274"]);
+        not_understood(&["why 11", "why 12", "why 13", "why 18", "why 19", "why 270"]);
         not_understood(&["why 259", "why 65535", "why 65536", "why 65539"]);
         not_understood(&["why 000003", "why x", "why -1", "why 3.", "why end"]);
         not_understood(&["why 3 3", "why 3 ", "why  3", " why 3", "why\t3"]);
@@ -2304,6 +2295,32 @@ mod tests {
             not_understood(&[&format!("{} 00010{{0*16}} {{0*260}}", word)]);
             not_understood(&[&format!("{}? 00008800{{8000*17}}800f", word)]);
         }
+    }
+
+    #[test]
+    fn help_and_why_do_not_tell_of_frames_yet() {
+        not_understood(&["help frame", "help frame?", "why 18", "why 19"]);
+        not_understood(&["why 00018", "why 019", "why 20", "why 21", "why 274"]);
+        answered(&[("frame 1 1", "refused 1"), ("frame? 7f", "refused 1")]);
+    }
+
+    #[test]
+    fn frames_leave_the_streams() {
+        let (send, first, second) = ("send {1*260}", "take 0 {0*116}", "take 1 {0*116}");
+        let alone = answers_to(&[send, first, send, second, "end"]);
+        let between = answers_to(&[
+            send,
+            "frame 00010{0*16} {1*260}",
+            first,
+            "frame? 00008800{80ff*17}800f",
+            send,
+            "frame {0*21} {0*260}",
+            second,
+            "frame? {0*80}",
+            "end",
+        ]);
+        let kept = [0, 2, 4, 6, 8].map(|k| between[k].clone());
+        assert_eq!(kept[..], alone[..]);
     }
 
     #[test]

@@ -20,17 +20,20 @@
 //! reference make-whose SEED COUNT      prints COUNT kit lines, most of which ask whose a burst was
 //! reference make-marks SEED COUNT      prints COUNT kit lines, most of which mark a decoder's block
 //! reference make-hub SEED COUNT        prints COUNT kit lines of classes that come to a hub
-//! reference make-frames SEED COUNT     prints COUNT kit lines, most of which write or read frames
 //! reference make-windows SEED COUNT    prints COUNT kit lines as a text from Windows has them
 //! reference make-full SEED             prints the kit lines of one stream of 16,383 blocks
 //! reference make-sheet SEED COUNT      prints COUNT access sheet lines
+//!
+//! The usage names these. One more is known, which it does not name yet:
+//!
+//! reference make-frames SEED COUNT     prints COUNT kit lines, most of which write or read frames
 //!
 //! What the papers define stands in model/, what chance gives in chance/, what makes lines in
 //! makers/. A channel is a row of the table in model/channel.rs, and its formulas stand in
 //! model/coding.rs and model/receiving.rs, those of enhanced full rate in model/efr.rs; a frame is
 //! the printed table in model/frame.rs; a refusal is a row of model/refusal.rs, a verb a row in
 //! kit.rs, an example a row in examples.rs, a mode that makes lines a row of makers/mod.rs. What is
-//! said of a verb or of a refusal is a row of README.
+//! said of a verb or of a refusal is a row of README; of frames nothing is said yet.
 
 // Loops keep the index k of the standard, so that each reads like its formula.
 #![allow(clippy::needless_range_loop, clippy::manual_memcpy)]
@@ -46,7 +49,7 @@ mod sheet;
 mod text;
 
 use crate::kit::Kit;
-use crate::makers::{Maker, MAKERS};
+use crate::makers::{Maker, FRAMES, MAKERS};
 use std::io::{Read, Result, Write};
 use std::process::ExitCode;
 
@@ -59,7 +62,7 @@ enum Task {
     Make(&'static Maker, u64, usize),
 }
 
-/// The command lines that are known.
+/// The command lines that are known, but that of frames.
 fn usage() -> String {
     let making = |maker: &Maker| format!(" | {} {}", maker.mode, maker.numbers);
     let makers: String = MAKERS.iter().map(making).collect();
@@ -80,7 +83,8 @@ fn task(arguments: &[String]) -> Option<Task> {
 
 /// The task of making lines; nothing if the mode or its numbers are none.
 fn making(mode: &str, numbers: &[&str]) -> Option<Task> {
-    let maker = MAKERS.iter().find(|maker| maker.mode == mode)?;
+    let mut makers = MAKERS.iter().chain([&FRAMES]);
+    let maker = makers.find(|maker| maker.mode == mode)?;
     if numbers.len() != maker.numbers.split(' ').count() {
         return None;
     }
@@ -153,7 +157,7 @@ mod tests {
     }
 
     #[test]
-    fn the_twenty_two_commands_are_known() {
+    fn the_twenty_one_commands_are_known() {
         assert!(matches!(task_of("answer"), Some(Task::Answer)));
         assert!(matches!(task_of("sheet"), Some(Task::Sheet)));
         assert!(matches!(task_of("examples"), Some(Task::Examples)));
@@ -172,7 +176,6 @@ mod tests {
         makes("make-marks 15 1500", "make-marks", 15, 1500);
         makes("make-bursts 7 20", "make-bursts", 7, 20);
         makes("make-hub 16 1600", "make-hub", 16, 1600);
-        makes("make-frames 17 1700", "make-frames", 17, 1700);
         makes("make-windows 0 900", "make-windows", 0, 900);
         makes("make-full 3", "make-full", 3, 0);
         makes("make-sheet 8 200", "make-sheet", 8, 200);
@@ -185,9 +188,15 @@ mod tests {
             make-stream SEED BLOCKS | make-lend SEED COUNT | make-help SEED COUNT | \
             make-totals SEED COUNT | make-ties SEED COUNT | make-missing SEED COUNT | \
             make-bursts SEED COUNT | make-efr SEED COUNT | make-whose SEED COUNT | \
-            make-marks SEED COUNT | make-hub SEED COUNT | make-frames SEED COUNT | \
-            make-windows SEED COUNT | make-full SEED | make-sheet SEED COUNT";
+            make-marks SEED COUNT | make-hub SEED COUNT | make-windows SEED COUNT | \
+            make-full SEED | make-sheet SEED COUNT";
         assert_eq!(usage(), words);
+    }
+
+    #[test]
+    fn the_command_of_frames_is_known_and_the_usage_does_not_name_it_yet() {
+        makes("make-frames 17 1700", "make-frames", 17, 1700);
+        assert!(!usage().contains("make-frames"));
     }
 
     #[test]

@@ -41,8 +41,8 @@ pub struct Maker {
     lines: fn(&mut Random, usize) -> Vec<Vec<u8>>,
 }
 
-/// All makers.
-pub static MAKERS: [Maker; 19] = [
+/// The makers that the usage names.
+pub static MAKERS: [Maker; 18] = [
     Maker {
         mode: "make-lines",
         numbers: "SEED COUNT",
@@ -134,12 +134,6 @@ pub static MAKERS: [Maker; 19] = [
         lines: hub_lines::lines,
     },
     Maker {
-        mode: "make-frames",
-        numbers: "SEED COUNT",
-        with_returns: false,
-        lines: frame_lines::lines,
-    },
-    Maker {
         mode: "make-windows",
         numbers: "SEED COUNT",
         with_returns: true,
@@ -158,6 +152,14 @@ pub static MAKERS: [Maker; 19] = [
         lines: |random, count| each(random, count, sheet_lines::line),
     },
 ];
+
+/// The maker of frames, whose mode is known like the others'; the usage does not name it yet.
+pub static FRAMES: Maker = Maker {
+    mode: "make-frames",
+    numbers: "SEED COUNT",
+    with_returns: false,
+    lines: frame_lines::lines,
+};
 
 /// So many lines, each made by itself.
 fn each(random: &mut Random, count: usize, line: impl Fn(&mut Random) -> Vec<u8>) -> Vec<Vec<u8>> {
@@ -211,6 +213,12 @@ mod tests {
         }
     }
 
+    #[test]
+    fn no_made_line_of_frames_holds_a_newline() {
+        let lines = (FRAMES.lines)(&mut Random::new(12), 5000);
+        assert!(lines.iter().all(|line| !line.contains(&10)));
+    }
+
     /// The page has a carriage return before a newline.
     fn has_returns(page: &[u8]) -> bool {
         page.windows(2).any(|two| two == b"\r\n")
@@ -222,6 +230,18 @@ mod tests {
             let page = maker.page(16, 3000);
             assert_eq!(has_returns(&page), maker.with_returns, "{}", maker.mode);
         }
+    }
+
+    #[test]
+    fn no_return_stands_before_a_newline_of_frames() {
+        assert!(!has_returns(&FRAMES.page(16, 3000)));
+    }
+
+    #[test]
+    fn a_seed_gives_the_same_page_of_frames_again() {
+        let page = FRAMES.page(1, 20);
+        assert_eq!(FRAMES.page(1, 20), page);
+        assert_ne!(FRAMES.page(2, 20), page);
     }
 
     #[test]

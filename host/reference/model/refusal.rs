@@ -108,7 +108,7 @@ mod tests {
     use super::*;
 
     #[test]
-    fn the_sixteen_numbers_are_those_of_papers_01_and_02() {
+    fn the_fourteen_numbers_are_those_of_papers_01_and_02() {
         let refusals = [
             WrongLength,
             NotABit,
@@ -124,17 +124,21 @@ mod tests {
             AllPlacesInUse,
             EmptyPlace,
             NobodyAccepts,
-            BadSync,
-            NotFullRate,
         ];
         let numbers: Vec<u8> = refusals.iter().map(|refusal| refusal.number()).collect();
-        let expected: Vec<u8> = (1..=10).chain(14..=19).collect();
-        assert_eq!(numbers, expected);
+        assert_eq!(numbers, [1, 2, 3, 4, 5, 6, 7, 8, 9, 10, 14, 15, 16, 17]);
         // Of these, 8 and 10 return a count besides.
         for refusal in refusals {
             let count = [8, 10].contains(&refusal.number()).then_some(3);
             assert_eq!(refusal.count(), count);
         }
+    }
+
+    #[test]
+    fn the_two_numbers_of_frames_are_those_of_paper_02() {
+        let refusals = [BadSync, NotFullRate];
+        assert_eq!(refusals.map(|refusal| refusal.number()), [18, 19]);
+        assert_eq!(refusals.map(|refusal| refusal.count()), [None, None]);
     }
 
     #[test]
