@@ -6,7 +6,7 @@ ghost use Rattle.text.specs.Within.{Within};
 
 use crate::put::put_byte;
 use crate::read::find;
-use std::io::{Eprint, Read, Write};
+use std::io::{Eprint, ErrorKind, Read, Write};
 
 // The bytes of a chunk that are not yet taken: from at up to end.
 #[derive(Drop)]
@@ -121,9 +121,11 @@ pub fn write_line<W: Write>(rt: &impl Eprint, output: &mut W, out: &mut [u8], n:
     let end = put_byte(out, n, b'\n');
     match output.write_all(&out[0..end]) {
         Ok(()) => true,
-        Err(_) => {
-            // nobody is left to hear of it where this cannot be said
-            let _ = eprintln!(rt; "an answer could not be written");
+        Err(error) => {
+            // a pipe that nobody reads any more is no failure, and nobody is left to hear of another where it cannot be said
+            if error.kind() != ErrorKind::BrokenPipe {
+                let _ = eprintln!(rt; "an answer could not be written");
+            }
             false
         }
     }
