@@ -1,4 +1,3 @@
 pub mod Numbers
 pub mod Ring
 pub mod Held
-pub mod laws

@@ -1,4 +1,3 @@
 pub mod Answers
 pub mod Totals
 pub mod Says
-pub mod laws

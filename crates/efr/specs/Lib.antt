@@ -3,4 +3,3 @@ pub mod Entries
 pub mod Says
 pub mod Promises
 pub mod Examples
-pub mod laws

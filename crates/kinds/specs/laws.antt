@@ -1,2 +1,1 @@
 pub mod Kinds
-pub mod Says

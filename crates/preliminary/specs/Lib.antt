@@ -1,2 +1,1 @@
 pub mod Stage
-pub mod laws

@@ -3,4 +3,3 @@ pub mod Totals
 pub mod Ties
 pub mod Lost
 pub mod Examples
-pub mod laws

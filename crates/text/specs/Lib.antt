@@ -2,4 +2,3 @@ pub mod Within
 pub mod Decimal
 pub mod Text
 pub mod Hexadecimal
-pub mod laws

@@ -1,7 +1,7 @@
 -- `bits::copy` is right: after k turns the first k bytes are those of `from`.
 use mathlib.Core.Path.{refl, sym, ◌∙◌}
 use lib.ListN.{length, get_or}
-use Rattle.bits.specs.laws.Tab.{filled_none, filled_more, filled_all, is_tab}
+use Rattle.bits.proofs.laws.Tab.{filled_none, filled_more, filled_all, is_tab}
 use Rattle.bits.proofs.copy.Goals as goal
 
 pub loop-k-init : goal.loop-k-init

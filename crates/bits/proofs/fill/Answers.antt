@@ -2,7 +2,7 @@
 use mathlib.Core.Path.{refl, sym, ◌∙◌}
 use borrow.Author.Rules.{rules}
 use lib.ListN.{length, replicate, length-replicate, get_or-replicate}
-use Rattle.bits.specs.laws.Tab.{filled_none, filled_more, filled_all, is_tab}
+use Rattle.bits.proofs.laws.Tab.{filled_none, filled_more, filled_all, is_tab}
 use Rattle.bits.proofs.fill.Goals as goal
 
 pub loop-k-init : goal.loop-k-init

@@ -2,8 +2,8 @@
 use Prim.Native.Nat.{◌%◌}
 use lib.ListN.{length, get_or}
 use Rattle.bits.specs.Bits.{given_bits, given_as}
-use Rattle.bits.specs.laws.Missing.{given_lowest}
-use Rattle.bits.specs.laws.Tab.{filled_none, filled_more, filled_all}
+use Rattle.bits.proofs.laws.Missing.{given_lowest}
+use Rattle.bits.proofs.laws.Tab.{filled_none, filled_more, filled_all}
 use Rattle.bits.proofs.give.Goals as goal
 
 pub loop-k-init : goal.loop-k-init

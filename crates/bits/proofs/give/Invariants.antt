@@ -1,7 +1,7 @@
 use Prim.Native.Nat.{◌-◌}
 use lib.ListN.{length, get_or}
 use Rattle.bits.specs.Bits.{given_as}
-use Rattle.bits.specs.laws.Tab.{Filled}
+use Rattle.bits.proofs.laws.Tab.{Filled}
 use Rattle.bits.proofs.give.Given as goal
 
 abbrev pub invariant-loop-k : goal.invariant-loop-k

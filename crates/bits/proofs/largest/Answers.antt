@@ -7,7 +7,7 @@ use borrow.Author.Rules.{rules}
 use lib.ListN.{length, get_or, take}
 use lib.Seq.{take_all}
 use Rattle.bits.specs.Bits.{largest}
-use Rattle.bits.specs.laws.Check.{largest_take}
+use Rattle.bits.proofs.laws.Check.{largest_take}
 use Rattle.bits.proofs.largest.Goals as goal
 
 pub loop-i-init : goal.loop-i-init

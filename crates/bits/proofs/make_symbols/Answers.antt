@@ -4,7 +4,7 @@ use native.Mathlib.Omega.{arith}
 use lib.ListN.{length, get_or}
 use lib.Seq.{get_or-set_other}
 use Rattle.bits.specs.Bits.{symbol}
-use Rattle.bits.specs.laws.Tab.{filled_none, filled_more, filled_all}
+use Rattle.bits.proofs.laws.Tab.{filled_none, filled_more, filled_all}
 use Rattle.bits.proofs.make_symbols.Goals as goal
 
 pub loop-k-init : goal.loop-k-init

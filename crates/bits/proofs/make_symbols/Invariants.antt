@@ -2,7 +2,7 @@ use mathlib.Core.Path.{◌≡◌}
 use Prim.Native.Nat.{ℕ, ◌-◌, ◌≤◌}
 use lib.ListN.{length, get_or}
 use Rattle.bits.specs.Bits.{symbol}
-use Rattle.bits.specs.laws.Tab.{Filled}
+use Rattle.bits.proofs.laws.Tab.{Filled}
 use Rattle.bits.proofs.make_symbols.Given as goal
 
 abbrev pub invariant-loop-k : goal.invariant-loop-k

@@ -2,7 +2,7 @@
 use mathlib.Core.Path.{refl}
 use lib.ListN.{length}
 use Rattle.bits.specs.Bits.{digits}
-use Rattle.bits.specs.laws.Tab.{filled_none, filled_more, filled_all}
+use Rattle.bits.proofs.laws.Tab.{filled_none, filled_more, filled_all}
 use Rattle.bits.proofs.put_digits.Invariants.{at}
 use Rattle.bits.proofs.put_digits.Goals as goal
 

@@ -1,5 +1,5 @@
 use Prim.Native.Nat.{ℕ, ◌-◌, ◌/◌, ◌%◌, ◌^◌}
-use Rattle.bits.specs.laws.Tab.{Filled}
+use Rattle.bits.proofs.laws.Tab.{Filled}
 use Rattle.bits.proofs.put_digits.Given as goal
 
 abbrev pub at : ℕ → ℕ → ℕ → ℕ

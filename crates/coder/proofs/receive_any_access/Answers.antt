@@ -1,8 +1,8 @@
 -- `coder::receive_any_access` is right: where every test holds, the nearest burst names its identity and its bits are handed over.
 use lib.Dec.{lit≤}
-use Rattle.coder.specs.laws.Entries.{done_given}
-use Rattle.coder.specs.laws.Format.{access_fits}
-use Rattle.coder.specs.laws.Whose.{any_done, any_refused}
+use Rattle.coder.proofs.laws.Entries.{done_given}
+use Rattle.coder.proofs.laws.Format.{access_fits}
+use Rattle.coder.proofs.laws.Whose.{any_done, any_refused}
 use Rattle.coder.proofs.receive_any_access.Goals as goal
 
 pub receive_named-requires : goal.receive_named-requires

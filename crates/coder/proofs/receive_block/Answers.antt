@@ -1,8 +1,9 @@
 -- `coder::receive_block` is right: where every test holds, the nearest block is received and judged; else the buffer stands as before.
 use Rattle.coder.specs.Received.{block_heard}
-use Rattle.coder.specs.laws.Entries.{done_given, done_identity}
-use Rattle.coder.specs.laws.Format.{generator_of, identity_fits}
-use Rattle.coder.specs.laws.Heard.{reception_done, reception_refused}
+use Rattle.coder.proofs.laws.Entries.{done_given, done_identity}
+use Rattle.coder.specs.laws.Format.{generator_of}
+use Rattle.coder.proofs.laws.Format.{identity_fits}
+use Rattle.coder.proofs.laws.Heard.{reception_done, reception_refused}
 use Rattle.coder.proofs.receive_block.Goals as goal
 
 pub receive-requires : goal.receive-requires

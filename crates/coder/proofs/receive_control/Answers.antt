@@ -1,8 +1,8 @@
 -- `coder::receive_control` is right: where every test holds, the nearest block is read and judged; else the buffer stands as before.
 use Rattle.parity.specs.Division.{control_g}
 use Rattle.coder.specs.Received.{block_heard, control_received}
-use Rattle.coder.specs.laws.Entries.{done_given}
-use Rattle.coder.specs.laws.Heard.{reception_done, reception_refused}
+use Rattle.coder.proofs.laws.Entries.{done_given}
+use Rattle.coder.proofs.laws.Heard.{reception_done, reception_refused}
 use Rattle.coder.proofs.receive_control.Goals as goal
 
 pub receive-requires : goal.receive-requires

@@ -2,8 +2,8 @@
 use Rattle.places.specs.Places.{gathered}
 use Rattle.parity.specs.Division.{control_g}
 use Rattle.coder.specs.Received.{block_heard, sacch_received}
-use Rattle.coder.specs.laws.Entries.{done_given}
-use Rattle.coder.specs.laws.Heard.{reception_done, reception_refused}
+use Rattle.coder.proofs.laws.Entries.{done_given}
+use Rattle.coder.proofs.laws.Heard.{reception_done, reception_refused}
 use Rattle.coder.proofs.receive_sacch.Goals as goal
 
 pub receive-requires : goal.receive-requires

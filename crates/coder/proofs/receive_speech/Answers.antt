@@ -1,7 +1,7 @@
 -- `coder::receive_speech` is right: where every test holds, the nearest block is read and judged; else the buffer stands as before.
 use Rattle.coder.specs.Received.{speech_heard, speech_received}
-use Rattle.coder.specs.laws.Entries.{done_given}
-use Rattle.coder.specs.laws.Heard.{reception_done, reception_refused}
+use Rattle.coder.proofs.laws.Entries.{done_given}
+use Rattle.coder.proofs.laws.Heard.{reception_done, reception_refused}
 use Rattle.coder.proofs.receive_speech.Goals as goal
 
 pub receive-requires : goal.receive-requires

@@ -2,9 +2,9 @@
 use native.Mathlib.Omega.{arith}
 use Rattle.coder.specs.Blocks.{access_burst}
 use Rattle.coder.specs.Entries.{access_sent}
-use Rattle.coder.specs.laws.Blocks.{access_is}
-use Rattle.coder.specs.laws.Entries.{done_given, done_identity, entry_done, entry_refused}
-use Rattle.coder.specs.laws.Format.{access_fits}
+use Rattle.coder.proofs.laws.Blocks.{access_is}
+use Rattle.coder.proofs.laws.Entries.{done_given, done_identity, entry_done, entry_refused}
+use Rattle.coder.proofs.laws.Format.{access_fits}
 use Rattle.coder.proofs.send_access.Goals as goal
 
 pub code-requires : goal.code-requires

@@ -1,7 +1,7 @@
 -- `coder::send_control` is right: where every test holds, the control block is written; else the buffer stands as before.
 use Rattle.coder.specs.Blocks.{control_block}
 use Rattle.coder.specs.Entries.{control_sent}
-use Rattle.coder.specs.laws.Entries.{done_given, entry_done, entry_refused}
+use Rattle.coder.proofs.laws.Entries.{done_given, entry_done, entry_refused}
 use Rattle.coder.proofs.send_control.Goals as goal
 
 pub code-requires : goal.code-requires

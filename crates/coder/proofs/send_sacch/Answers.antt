@@ -1,7 +1,7 @@
 -- `coder::send_sacch` is right: where every test holds, the SACCH message is written; else the buffer stands as before.
 use Rattle.coder.specs.Blocks.{sacch_message}
 use Rattle.coder.specs.Entries.{sacch_sent}
-use Rattle.coder.specs.laws.Entries.{done_given, entry_done, entry_refused}
+use Rattle.coder.proofs.laws.Entries.{done_given, entry_done, entry_refused}
 use Rattle.coder.proofs.send_sacch.Goals as goal
 
 pub code-requires : goal.code-requires

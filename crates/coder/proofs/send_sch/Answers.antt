@@ -2,9 +2,9 @@
 use native.Mathlib.Omega.{arith}
 use Rattle.coder.specs.Blocks.{sch_burst}
 use Rattle.coder.specs.Entries.{sch_sent}
-use Rattle.coder.specs.laws.Blocks.{sch_is}
-use Rattle.coder.specs.laws.Entries.{done_given, entry_done, entry_refused}
-use Rattle.coder.specs.laws.Format.{sch_fits}
+use Rattle.coder.proofs.laws.Blocks.{sch_is}
+use Rattle.coder.proofs.laws.Entries.{done_given, entry_done, entry_refused}
+use Rattle.coder.proofs.laws.Format.{sch_fits}
 use Rattle.coder.proofs.send_sch.Goals as goal
 
 pub code-requires : goal.code-requires

@@ -1,7 +1,7 @@
 -- `coder::send_speech` is right: where every test holds, the speech block is written; else the buffer stands as before.
 use Rattle.coder.specs.Blocks.{speech_block}
 use Rattle.coder.specs.Entries.{speech_sent}
-use Rattle.coder.specs.laws.Entries.{done_given, entry_done, entry_refused}
+use Rattle.coder.proofs.laws.Entries.{done_given, entry_done, entry_refused}
 use Rattle.coder.proofs.send_speech.Goals as goal
 
 pub code-requires : goal.code-requires

@@ -3,8 +3,8 @@ use native.Mathlib.Omega.{arith}
 use borrow.Author.Tests.{eq-eqb, ne_eqb, le-leb, lt-leb}
 use Rattle.coder.specs.Entries.{judged}
 use Rattle.answers.specs.declared.Refusal.TheVariants.{Length, NotBits}
-use Rattle.coder.specs.laws.Entries.{view_refused, view_done}
-use Rattle.bits.specs.laws.Check.{none_over_lem}
+use Rattle.coder.proofs.laws.Entries.{view_refused, view_done}
+use Rattle.bits.proofs.laws.Check.{none_over_lem}
 use mathlib.Core.Path.{sym, ◌∙◌}
 use Rattle.coder.proofs.view_trellis.Goals as goal
 

@@ -1,9 +1,9 @@
 -- `coder::whose_access` is right: where both tests hold, the nearest burst names its identity.
 use mathlib.Core.List.{[]}
 use lib.Dec.{lit≤}
-use Rattle.coder.specs.laws.Entries.{done_given}
-use Rattle.coder.specs.laws.Format.{access_fits}
-use Rattle.coder.specs.laws.Whose.{whose_done, whose_refused}
+use Rattle.coder.proofs.laws.Entries.{done_given}
+use Rattle.coder.proofs.laws.Format.{access_fits}
+use Rattle.coder.proofs.laws.Whose.{whose_done, whose_refused}
 use Rattle.coder.proofs.whose_access.Goals as goal
 
 pub name-requires : goal.name-requires

@@ -1,6 +1,6 @@
 -- `convolution::back` is right: a place before the first has 0, every other its bit.
 use mathlib.Core.Path.{sym}
-use Rattle.convolution.specs.laws.Pairs.{back_early, back_late}
+use Rattle.convolution.proofs.laws.Pairs.{back_early, back_late}
 use Rattle.convolution.proofs.back.Goals as goal
 
 pub returns-then-k-j : goal.returns-then-k-j

@@ -5,8 +5,8 @@ use native.Mathlib.Omega.{arith}
 use borrow.Author.Rules.{rules}
 use lib.ListN.{length, length-set}
 use Rattle.convolution.specs.Pairs.{coded, coded_at}
-use Rattle.convolution.specs.laws.Pairs.{coded_even, coded_odd}
-use Rattle.bits.specs.laws.Tab.{filled_none, filled_pair, filled_all}
+use Rattle.convolution.proofs.laws.Pairs.{coded_even, coded_odd}
+use Rattle.bits.proofs.laws.Tab.{filled_none, filled_pair, filled_all}
 use Rattle.convolution.proofs.code.Goals as goal
 
 pub loop-k-init : goal.loop-k-init

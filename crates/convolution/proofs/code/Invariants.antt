@@ -1,7 +1,7 @@
 use Prim.Native.Nat.{◌-◌, ◌*◌, ◌≤◌}
 use lib.ListN.{length}
 use Rattle.convolution.specs.Pairs.{coded_at}
-use Rattle.bits.specs.laws.Tab.{Filled}
+use Rattle.bits.proofs.laws.Tab.{Filled}
 use Rattle.convolution.proofs.code.Given as goal
 
 abbrev pub invariant-loop-k : goal.invariant-loop-k

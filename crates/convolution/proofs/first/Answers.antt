@@ -2,7 +2,7 @@
 use mathlib.Core.Path.{◌≡◌, ap₂, ◌∙◌}
 use lib.Bits.{bit_xor}
 use Rattle.convolution.specs.Pairs.{back}
-use Rattle.convolution.specs.laws.Pairs.{first_xor}
+use Rattle.convolution.proofs.laws.Pairs.{first_xor}
 use Rattle.convolution.proofs.first.Goals as goal
 
 pub returns : goal.returns

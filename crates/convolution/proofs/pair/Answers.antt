@@ -1,5 +1,5 @@
 -- `convolution::pair` is right: its table is the printed one, whose rule is proved over the whole table.
-use Rattle.convolution.specs.laws.Table.{printed, printed_right}
+use Rattle.convolution.proofs.laws.Table.{printed, printed_right}
 use Rattle.convolution.proofs.pair.Goals as goal
 
 pub returns : goal.returns

@@ -1,7 +1,7 @@
 -- `convolution::second` is right: the other formula has u(k-1) more.
 use mathlib.Core.Path.{ap₂, ◌∙◌}
 use lib.Bits.{bit_xor}
-use Rattle.convolution.specs.laws.Pairs.{second_xor}
+use Rattle.convolution.proofs.laws.Pairs.{second_xor}
 use Rattle.convolution.proofs.second.Goals as goal
 
 pub returns : goal.returns

@@ -1,7 +1,7 @@
 -- `desk::desk_whose_access` is right: it is coder's entry, told in one number.
 use mathlib.Core.Path.{refl, sym, ap, ◌∙◌}
 use Prim.Native.Nat.{ℕ, ◌*◌}
-use Rattle.desk.specs.laws.Desk.{named_in_one, refused_in_one}
+use Rattle.desk.proofs.laws.Desk.{named_in_one, refused_in_one}
 use Rattle.desk.proofs.desk_whose_access.Goals as goal
 
 pub returns-in-Named : goal.returns-in-Named

@@ -6,7 +6,7 @@ use lib.ListN.{get_or}
 use Rattle.bits.specs.Bits.{tab_from}
 use Rattle.parity.specs.Division.{occurs}
 use Rattle.drawing.specs.Drawing.{control_taps, is_tap, from_below}
-use Rattle.drawing.specs.laws.Drawing.{clock_is}
+use Rattle.drawing.proofs.laws.Drawing.{clock_is}
 use Rattle.drawing.proofs.clock.Goals as goal
 
 pub returns : goal.returns

@@ -7,10 +7,10 @@ use borrow.Author.Rules.{rules}
 use lib.ListN.{take, drop}
 use lib.Seq.{take_all}
 use Rattle.bits.specs.Bits.{Bits, zeros}
-use Rattle.bits.specs.laws.Parts.{length_lent}
-use Rattle.bits.specs.laws.Sum.{bits_drop, bits_take, bits_zeros}
+use Rattle.bits.proofs.laws.Parts.{length_lent}
+use Rattle.bits.proofs.laws.Sum.{bits_drop, bits_take, bits_zeros}
 use Rattle.drawing.specs.Drawing.{control_taps, clocked_in}
-use Rattle.drawing.specs.laws.Drawing.{bits_entered, entered_part}
+use Rattle.drawing.proofs.laws.Drawing.{bits_entered, entered_part}
 use Rattle.drawing.proofs.clock_block.Goals as goal
 
 pub loop-i-init : goal.loop-i-init

@@ -8,7 +8,7 @@ use lib.ListN.{length, get_or, take}
 use lib.Seq.{take_all}
 use Rattle.bits.specs.Bits.{Bits}
 use Rattle.drawing.specs.Drawing.{control_taps, clocked, clocked_in}
-use Rattle.drawing.specs.laws.Drawing.{bits_entered, entered_more}
+use Rattle.drawing.proofs.laws.Drawing.{bits_entered, entered_more}
 use Rattle.drawing.proofs.clock_octet.Goals as goal
 
 pub loop-i-init : goal.loop-i-init

@@ -3,7 +3,7 @@ use mathlib.Core.Path.{◌≡◌, ◌∙◌}
 use Prim.Native.Nat.{ℕ, ◌-◌, ◌≤◌}
 use native.Mathlib.Omega.{arith}
 use lib.Bits.{bit_xor}
-use Rattle.bits.specs.laws.Value.{xor_bits}
+use Rattle.bits.proofs.laws.Value.{xor_bits}
 use Rattle.drawing.proofs.complement.Goals as goal
 
 other : (b : ℕ) → b ≤ 1 → bit_xor 1 b ≡ 1 - b

@@ -5,11 +5,11 @@ use Prim.Native.Nat.{ℕ}
 use native.Mathlib.Omega.{arith}
 use lib.ListN.{length, take, drop, length-drop}
 use lib.Seq.{length-take-le, take_all}
-use Rattle.bits.specs.laws.Parts.{length_lent}
-use Rattle.bits.specs.laws.Sum.{bits_take}
+use Rattle.bits.proofs.laws.Parts.{length_lent}
+use Rattle.bits.proofs.laws.Sum.{bits_take}
 use Rattle.parity.specs.Division.{control_g}
-use Rattle.parity.specs.laws.Division.{length_parity}
-use Rattle.parity.specs.laws.Generators.{control_long}
+use Rattle.parity.proofs.laws.Division.{length_parity}
+use Rattle.parity.proofs.laws.Generators.{control_long}
 use Rattle.drawing.proofs.is_control.Goals as goal
 
 -- the last forty are all that stands behind the 184

@@ -2,9 +2,9 @@
 use mathlib.Core.Path.{sym, ap, ◌∙◌, subst}
 use borrow.Author.Rules.{rules}
 use Rattle.bits.specs.Bits.{Bits, zeros}
-use Rattle.bits.specs.laws.Sum.{bits_zeros}
+use Rattle.bits.proofs.laws.Sum.{bits_zeros}
 use Rattle.drawing.specs.Drawing.{control_taps, read_off}
-use Rattle.drawing.specs.laws.Drawing.{bits_entered, control_drawn}
+use Rattle.drawing.proofs.laws.Drawing.{bits_entered, control_drawn}
 use Rattle.drawing.proofs.put_control.Goals as goal
 
 pub read_off-requires : goal.read_off-requires

@@ -4,7 +4,7 @@ use Prim.Native.Nat.{ℕ, ◌-◌}
 use borrow.Author.Rules.{rules}
 use lib.ListN.{length, get_or}
 use Rattle.bits.specs.Bits.{tab}
-use Rattle.bits.specs.laws.Tab.{filled_none, filled_more, filled_all}
+use Rattle.bits.proofs.laws.Tab.{filled_none, filled_more, filled_all}
 use Rattle.drawing.specs.Drawing.{read_off}
 use Rattle.drawing.proofs.read_off.Invariants.{turned}
 use Rattle.drawing.proofs.read_off.Goals as goal

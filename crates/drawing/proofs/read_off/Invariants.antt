@@ -1,7 +1,7 @@
 use mathlib.Core.List.{List}
 use Prim.Native.Nat.{ℕ, ◌-◌}
 use lib.ListN.{get_or}
-use Rattle.bits.specs.laws.Tab.{Filled}
+use Rattle.bits.proofs.laws.Tab.{Filled}
 use Rattle.drawing.proofs.read_off.Given as goal
 
 abbrev pub turned : List ℕ → ℕ → ℕ

@@ -11,7 +11,7 @@ use lib.Dec.{T, eqb, eqb→eq}
 use lib.ListN.{length, get_or}
 use lib.Seq.{ext_get_or}
 use Rattle.bits.specs.Bits.{all_below, both}
-use Rattle.bits.specs.laws.Tab.{below}
+use Rattle.bits.proofs.laws.Tab.{below}
 use Rattle.drawing.proofs.same.Invariants.{alike}
 use Rattle.drawing.proofs.same.Goals as goal
 

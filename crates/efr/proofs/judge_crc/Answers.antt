@@ -1,6 +1,6 @@
 -- `efr::judge_crc` is right: s is read out of d, and handed over where the CRC is good.
 use mathlib.Core.Path.{◌∙◌}
-use Rattle.efr.specs.laws.Entries.{crc_good_lem, crc_bad}
+use Rattle.efr.proofs.laws.Entries.{crc_good_lem, crc_bad}
 use Rattle.efr.proofs.judge_crc.Goals as goal
 
 pub returns-then-not-restore : goal.returns-then-not-restore

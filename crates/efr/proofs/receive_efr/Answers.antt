@@ -1,6 +1,6 @@
 -- `efr::receive_efr` is right: what the speech entry hears, with the CRC judged where the parity is good.
 use mathlib.Core.Path.{refl}
-use Rattle.efr.specs.laws.Entries.{wrong_length, judged_asked, received_good, received_refused, received_bad}
+use Rattle.efr.proofs.laws.Entries.{wrong_length, judged_asked, received_good, received_refused, received_bad}
 use Rattle.efr.proofs.receive_efr.Goals as goal
 
 pub returns-then-s-ne244 : goal.returns-then-s-ne244

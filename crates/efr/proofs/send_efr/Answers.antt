@@ -1,7 +1,7 @@
 -- `efr::send_efr` is right: the preliminary stage, then the speech entry.
 use mathlib.Core.Path.{refl, sym, ◌∙◌}
-use Rattle.bits.specs.laws.Check.{none_over_lem}
-use Rattle.efr.specs.laws.Entries.{sent_length, sent_lent, sent_not_bits, sent_done}
+use Rattle.bits.proofs.laws.Check.{none_over_lem}
+use Rattle.efr.proofs.laws.Entries.{sent_length, sent_lent, sent_not_bits, sent_done}
 use Rattle.efr.proofs.send_efr.Goals as goal
 
 pub returns-then-s-ne244 : goal.returns-then-s-ne244

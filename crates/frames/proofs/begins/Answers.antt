@@ -7,7 +7,7 @@ use native.Mathlib.Omega.{arith}
 use lib.ListN.{get_or}
 use borrow.Author.Count.{below_more}
 use borrow.Author.Tests.{eq-eqb}
-use Rattle.frames.specs.laws.Speech.{agrees, begins_with, begins_not}
+use Rattle.frames.proofs.laws.Speech.{agrees, begins_with, begins_not}
 use Rattle.frames.proofs.begins.Goals as goal
 
 pub loop-i-init : goal.loop-i-init

@@ -1,7 +1,7 @@
 use mathlib.Core.Bool.{true}
 use mathlib.Core.Path.{◌≡◌}
 use Prim.Native.Nat.{ℕ, ◌-◌, ◌≤◌, ◌<◌}
-use Rattle.frames.specs.laws.Speech.{agrees}
+use Rattle.frames.proofs.laws.Speech.{agrees}
 use Rattle.frames.proofs.begins.Given as goal
 
 abbrev pub invariant-loop-i : goal.invariant-loop-i

@@ -6,8 +6,8 @@ use native.Mathlib.Omega.{arith}
 use lib.ListN.{length, take, drop, length-drop}
 use lib.Seq.{take_all}
 use Rattle.bits.specs.Bits.{ones}
-use Rattle.bits.specs.laws.Parts.{put_three, length_lent}
-use Rattle.frames.specs.laws.Layout.{length_data}
+use Rattle.bits.proofs.laws.Parts.{put_three, length_lent}
+use Rattle.frames.proofs.laws.Layout.{length_data}
 use Rattle.frames.proofs.carry.Goals as goal
 
 pub returns : goal.returns

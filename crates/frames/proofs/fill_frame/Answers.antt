@@ -4,7 +4,8 @@ use Prim.Native.Nat.{ℕ, ◌*◌}
 use lib.ListN.{length}
 use Rattle.frames.specs.Frame.{data_bits, frame}
 use Rattle.frames.specs.Octets.{packed}
-use Rattle.frames.specs.laws.Layout.{laid_out, carries, bits_laid, length_laid, bits_carries, bits_data, length_data, is_laid_out}
+use Rattle.frames.specs.laws.Layout.{laid_out, carries}
+use Rattle.frames.proofs.laws.Layout.{bits_laid, length_laid, bits_carries, bits_data, length_data, is_laid_out}
 use Rattle.frames.proofs.fill_frame.Goals as goal
 
 pub pack-requires : goal.pack-requires

@@ -4,9 +4,9 @@ use mathlib.Core.Path.{◌≡◌, refl, ap, ap₂, ◌∙◌}
 use Prim.Native.Nat.{ℕ}
 use native.Mathlib.Omega.{arith}
 use lib.ListN.{length, take, drop}
-use Rattle.bits.specs.laws.Parts.{put_two, length_lent}
+use Rattle.bits.proofs.laws.Parts.{put_two, length_lent}
 use Rattle.order.specs.Order.{entries, fetched}
-use Rattle.tables.specs.laws.FullRate.{importance_fetches, importance_entries}
+use Rattle.tables.proofs.laws.FullRate.{importance_fetches, importance_entries}
 use Rattle.frames.proofs.hand_over.Goals as goal
 
 pub fetch-requires : goal.fetch-requires

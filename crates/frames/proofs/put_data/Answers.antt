@@ -2,7 +2,7 @@
 use mathlib.Core.Path.{ap, ◌∙◌}
 use Rattle.frames.specs.Frame.{data_bits}
 use Rattle.order.specs.Order.{entries, put_back}
-use Rattle.tables.specs.laws.FullRate.{importance_puts_back, importance_entries}
+use Rattle.tables.proofs.laws.FullRate.{importance_puts_back, importance_entries}
 use Rattle.frames.proofs.put_data.Goals as goal
 
 pub put_back-requires : goal.put_back-requires

@@ -5,7 +5,7 @@ use Prim.Native.Nat.{ℕ}
 use native.Mathlib.Omega.{arith}
 use lib.ListN.{length, take, drop, replicate}
 use Rattle.bits.specs.Bits.{ones}
-use Rattle.bits.specs.laws.Parts.{put, put_two, length_lent, length_put}
+use Rattle.bits.proofs.laws.Parts.{put, put_two, length_lent, length_put}
 use Rattle.frames.proofs.put_end.Goals as goal
 
 pub returns : goal.returns

@@ -6,8 +6,9 @@ use lib.ListN.{length, take, drop}
 use Rattle.answers.specs.declared.Refusal.TheVariants.{Length, FixedBit, FrameType}
 use Rattle.frames.specs.Frame.{fixed_right, is_speech}
 use Rattle.frames.specs.Octets.{unpacked}
-use Rattle.frames.specs.laws.Entries.{is_sized, read_1, read_18, read_19, read_0, read_refused, read_done, same_type}
-use Rattle.frames.specs.laws.Layout.{taken_out, length_taken, control_taken, speech_taken}
+use Rattle.frames.proofs.laws.Entries.{is_sized, read_1, read_18, read_19, read_0, read_refused, read_done, same_type}
+use Rattle.frames.specs.laws.Layout.{taken_out}
+use Rattle.frames.proofs.laws.Layout.{length_taken, control_taken, speech_taken}
 use Rattle.order.specs.Order.{fetched}
 use Rattle.tables.specs.FullRate.{importance}
 use Rattle.frames.proofs.read_frame.Goals as goal

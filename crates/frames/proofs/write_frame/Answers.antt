@@ -2,8 +2,8 @@
 use mathlib.Core.Path.{sym, ◌∙◌}
 use native.Mathlib.Omega.{arith}
 use Rattle.answers.specs.declared.Refusal.TheVariants.{Length, NotBits, FrameType}
-use Rattle.bits.specs.laws.Check.{none_over_lem}
-use Rattle.frames.specs.laws.Entries.{is_sized, no_bits_c, no_bits_d, two_bits, write_1, write_2, write_19, write_0, write_refused, write_done}
+use Rattle.bits.proofs.laws.Check.{none_over_lem}
+use Rattle.frames.proofs.laws.Entries.{is_sized, no_bits_c, no_bits_d, two_bits, write_1, write_2, write_19, write_0, write_refused, write_done}
 use Rattle.frames.proofs.write_frame.Goals as goal
 
 pub returns-then-not-are_sized : goal.returns-then-not-are_sized

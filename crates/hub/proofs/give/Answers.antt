@@ -3,11 +3,12 @@ use mathlib.Core.Path.{sym, ap, ap₂, ◌∙◌}
 use Prim.Native.Nat.{ℕ}
 use mathlib.Core.List.{List}
 use native.Mathlib.Omega.{arith}
-use Rattle.answers.specs.laws.Answers.{meets_as}
+use Rattle.answers.proofs.laws.Answers.{meets_as}
 use Rattle.hub.specs.Hub.{place_of}
 use Rattle.hub.specs.declared.Answered.{Answered}
 use Rattle.hub.specs.declared.Said.TheVariants.{Request}
-use Rattle.hub.specs.laws.Answers.{goes, goes_there, goes_nowhere}
+use Rattle.hub.specs.laws.Answers.{goes}
+use Rattle.hub.proofs.laws.Answers.{goes_there, goes_nowhere}
 use Rattle.hub.proofs.give.Goals as goal
 
 pub returns-then-place-ge-PLACES : goal.returns-then-place-ge-PLACES

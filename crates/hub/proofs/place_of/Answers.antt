@@ -7,7 +7,7 @@ use native.Mathlib.Omega.{arith}
 use lib.Dec.{eqb}
 use borrow.Author.Count.{below_more}
 use borrow.Author.Tests.{eq-eqb, ne_eqb}
-use Rattle.hub.specs.laws.Places.{holds_at, first_is}
+use Rattle.hub.proofs.laws.Places.{holds_at, first_is}
 use Rattle.hub.proofs.place_of.Goals as goal
 
 pub loop-p-init : goal.loop-p-init

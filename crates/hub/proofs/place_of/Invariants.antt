@@ -3,7 +3,7 @@ use mathlib.Core.Path.{◌≡◌}
 use Prim.Native.Nat.{ℕ, ◌-◌, ◌≤◌, ◌<◌}
 use lib.Dec.{eqb}
 use lib.ListN.{length}
-use Rattle.hub.specs.laws.Places.{holds_at}
+use Rattle.hub.proofs.laws.Places.{holds_at}
 use Rattle.hub.proofs.place_of.Given as goal
 
 abbrev pub invariant-loop-p : goal.invariant-loop-p

@@ -1,5 +1,5 @@
 -- `kinds::receive` is right: the block is received as the kind that its flags say.
-use Rattle.kinds.specs.laws.Kinds.{by_vote}
+use Rattle.kinds.proofs.laws.Kinds.{by_vote}
 use Rattle.chart.specs.declared.Kind.TheVariants.{Speech, Facch, Neither}
 use Rattle.kinds.proofs.receive.Goals as goal
 

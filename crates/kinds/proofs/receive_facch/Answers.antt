@@ -1,6 +1,6 @@
 -- `kinds::receive_facch` is right: coder's entry receives the coded bits, and take says what it says.
 use mathlib.Core.Path.{◌∙◌}
-use Rattle.kinds.specs.laws.Kinds.{facch_brought}
+use Rattle.kinds.proofs.laws.Kinds.{facch_brought}
 use Rattle.kinds.proofs.receive_facch.Goals as goal
 
 pub returns : goal.returns

@@ -1,6 +1,6 @@
 -- `kinds::receive_speech` is right: coder's entry receives the coded bits, and take says what it says.
 use mathlib.Core.Path.{◌∙◌}
-use Rattle.kinds.specs.laws.Kinds.{speech_brought}
+use Rattle.kinds.proofs.laws.Kinds.{speech_brought}
 use Rattle.kinds.proofs.receive_speech.Goals as goal
 
 pub returns : goal.returns

@@ -1,6 +1,6 @@
 -- `kinds::receive_tied` is right: what is good as FACCH is brought so; else the buffer is as before, and what is good as speech is brought so.
 use mathlib.Core.Path.{sym, ◌∙◌}
-use Rattle.kinds.specs.laws.Kinds.{tied_facch, tied_speech, tied_neither}
+use Rattle.kinds.proofs.laws.Kinds.{tied_facch, tied_speech, tied_neither}
 use Rattle.kinds.proofs.receive_tied.Goals as goal
 
 pub returns-then-is_good : goal.returns-then-is_good

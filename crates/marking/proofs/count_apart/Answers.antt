@@ -1,6 +1,6 @@
 -- `marking::count_apart` is right: after i places it has summed up their disagreements, at most one each.
 use native.Mathlib.Omega.{arith}
-use Rattle.marking.specs.laws.Counted.{apart_none, apart_more, apart_all}
+use Rattle.marking.proofs.laws.Counted.{apart_none, apart_more, apart_all}
 use Rattle.marking.proofs.count_apart.Goals as goal
 
 pub loop-i-init : goal.loop-i-init

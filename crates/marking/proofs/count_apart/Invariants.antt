@@ -1,7 +1,7 @@
 use mathlib.Core.Path.{◌≡◌}
 use Prim.Native.Nat.{◌-◌, ◌≤◌}
 use lib.ListN.{length}
-use Rattle.marking.specs.laws.Counted.{apart_up_to}
+use Rattle.marking.proofs.laws.Counted.{apart_up_to}
 use Rattle.marking.proofs.count_apart.Given as goal
 
 abbrev pub invariant-loop-i : goal.invariant-loop-i

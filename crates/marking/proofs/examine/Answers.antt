@@ -1,7 +1,7 @@
 -- `marking::examine` is right: each answer names the first thing asked that fails on the way to it.
 use native.Mathlib.Omega.{arith}
 use Rattle.marking.specs.Marks.{Deserves}
-use Rattle.marking.specs.laws.Marks.{tail_found, tail_wrong, at_most_fewest, fewest_at_most}
+use Rattle.marking.proofs.laws.Marks.{tail_found, tail_wrong, at_most_fewest, fewest_at_most}
 use borrow.Author.Rules.{rules}
 use Rattle.marking.proofs.examine.Goals as goal
 

@@ -6,8 +6,8 @@ use native.Mathlib.Omega.{arith}
 use lib.ListN.{length}
 use Rattle.bits.specs.Bits.{Symbols}
 use Rattle.marking.specs.Marks.{Deserves}
-use Rattle.marking.specs.laws.Counted.{part_counts, counting_long, counting_symbols}
-use Rattle.marking.specs.laws.Marks.{done_read, marks_deserved, marks_refused}
+use Rattle.marking.proofs.laws.Counted.{part_counts, counting_long, counting_symbols}
+use Rattle.marking.proofs.laws.Marks.{done_read, marks_deserved, marks_refused}
 use Rattle.marking.proofs.mark_of.Goals as goal
 
 pub slice_bounds-examine-end : goal.slice_bounds-examine-end

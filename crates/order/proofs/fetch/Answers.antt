@@ -5,9 +5,9 @@ use Prim.Native.Nat.{ℕ, ◌+◌, ◌*◌}
 use native.Mathlib.Omega.{arith}
 use lib.ListN.{length, get_or, set}
 use Rattle.bits.specs.Bits.{tab}
-use Rattle.bits.specs.laws.Tab.{Filled, filled_none, filled_more, filled_all}
+use Rattle.bits.proofs.laws.Tab.{Filled, filled_none, filled_more, filled_all}
 use Rattle.order.specs.Order.{from1, entries, fetched}
-use Rattle.order.specs.laws.Loops.{in_row, row_within, length_entries, same_place}
+use Rattle.order.proofs.laws.Loops.{in_row, row_within, length_entries, same_place}
 use Rattle.order.proofs.fetch.Goals as goal
 
 -- what is filled, and how many places are

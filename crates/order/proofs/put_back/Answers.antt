@@ -5,7 +5,7 @@ use Prim.Native.Nat.{ℕ, ◌+◌, ◌-◌, ◌*◌}
 use native.Mathlib.Omega.{arith}
 use lib.ListN.{length, get_or, set}
 use Rattle.order.specs.Order.{entries}
-use Rattle.order.specs.laws.Loops.{in_row, row_within, same_place, Returned, returned_none, returned_more, returned_all}
+use Rattle.order.proofs.laws.Loops.{in_row, row_within, same_place, Returned, returned_none, returned_more, returned_all}
 use Rattle.order.proofs.put_back.Goals as goal
 
 -- how many bits are at their places

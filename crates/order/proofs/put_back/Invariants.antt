@@ -1,7 +1,7 @@
 use Prim.Native.Nat.{◌+◌, ◌-◌, ◌*◌, ◌≤◌}
 use lib.ListN.{length}
 use Rattle.order.specs.Order.{entries}
-use Rattle.order.specs.laws.Loops.{Returned}
+use Rattle.order.proofs.laws.Loops.{Returned}
 use Rattle.order.proofs.put_back.Given as goal
 
 abbrev pub invariant-loop-x : goal.invariant-loop-x

@@ -4,7 +4,7 @@ use Prim.Native.Nat.{ℕ, ◌+◌, ◌*◌, ◌/◌, ◌^◌, ◌≤◌}
 use native.Mathlib.Omega.{arith}
 use lib.Bits.{bit_xor}
 use lib.Pow.{pow_mono}
-use Rattle.parity.specs.laws.Brought.{quotient_bit, bring_times, times_bit}
+use Rattle.parity.proofs.laws.Brought.{quotient_bit, bring_times, times_bit}
 use Rattle.parity.proofs.bring_down.Goals as goal
 
 -- D^degree leaves two bits of a u64 free

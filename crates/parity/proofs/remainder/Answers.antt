@@ -7,8 +7,9 @@ use lib.ListN.{length, get_or}
 use lib.Pow.{pow_pos}
 use lib.Seq.{take_all}
 use Rattle.bits.specs.Bits.{digits}
-use Rattle.bits.specs.laws.Value.{length_digits, bits_digits, value_digits}
-use Rattle.parity.specs.laws.Brought.{along_n, along_n_more, brought_down, brought_down_lt, remainder_value}
+use Rattle.bits.proofs.laws.Value.{length_digits, bits_digits, value_digits}
+use Rattle.parity.specs.laws.Brought.{brought_down}
+use Rattle.parity.proofs.laws.Brought.{along_n, along_n_more, brought_down_lt, remainder_value}
 use Rattle.parity.proofs.remainder.Goals as goal
 
 pub loop-i-init : goal.loop-i-init

@@ -1,7 +1,7 @@
 use mathlib.Core.Path.{◌≡◌}
 use Prim.Native.Nat.{◌-◌, ◌^◌, ◌≤◌, ◌<◌}
 use lib.ListN.{length, take}
-use Rattle.parity.specs.laws.Brought.{along_n}
+use Rattle.parity.proofs.laws.Brought.{along_n}
 use Rattle.parity.proofs.remainder.Given as goal
 
 abbrev pub invariant-loop-i : goal.invariant-loop-i

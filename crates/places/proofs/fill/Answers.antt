@@ -2,7 +2,7 @@
 use mathlib.Core.Path.{◌≡◌, ap, ◌∙◌}
 use native.Mathlib.Omega.{arith}
 use lib.ListN.{length, length-set}
-use Rattle.bits.specs.laws.Tab.{length_tab}
+use Rattle.bits.proofs.laws.Tab.{length_tab}
 use Rattle.places.specs.laws.Table.{laid, burst_of_twice}
 use Rattle.places.proofs.fill.Goals as goal
 

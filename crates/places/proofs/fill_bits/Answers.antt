@@ -3,8 +3,9 @@ use mathlib.Core.Path.{sym, ◌∙◌}
 use Prim.Native.Nat.{◌*◌}
 use native.Mathlib.Omega.{arith}
 use lib.ListN.{length-set}
-use Rattle.bits.specs.laws.Tab.{filled_none, filled_pair, filled_all}
-use Rattle.places.specs.laws.Table.{bit_in_lem, laid, laid_even, laid_odd}
+use Rattle.bits.proofs.laws.Tab.{filled_none, filled_pair, filled_all}
+use Rattle.places.specs.laws.Table.{laid}
+use Rattle.places.proofs.laws.Table.{bit_in_lem, laid_even, laid_odd}
 use borrow.Author.Rules.{rules}
 use Rattle.places.proofs.fill_bits.Goals as goal
 

@@ -2,7 +2,8 @@
 use mathlib.Core.List.{List}
 use mathlib.Core.Path.{ap₂, ◌∙◌}
 use Prim.Native.Nat.{ℕ}
-use Rattle.places.specs.laws.Table.{four_of_twice, four_twice}
+use Rattle.places.specs.laws.Table.{four_of_twice}
+use Rattle.places.proofs.laws.Table.{four_twice}
 use Rattle.places.proofs.fill_four.Goals as goal
 
 pub returns : goal.returns

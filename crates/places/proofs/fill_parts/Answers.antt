@@ -1,5 +1,5 @@
 -- `places::fill_parts` is right: four parts, one after another, make the whole.
-use Rattle.places.specs.laws.Table.{parts_twice}
+use Rattle.places.proofs.laws.Table.{parts_twice}
 use Rattle.places.proofs.fill_parts.Goals as goal
 
 pub returns : goal.returns

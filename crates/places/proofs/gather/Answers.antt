@@ -4,8 +4,9 @@ use mathlib.Core.Path.{◌≡◌, sym, ◌∙◌, subst}
 use Prim.Native.Nat.{ℕ, ◌+◌, ◌*◌}
 use native.Mathlib.Omega.{arith}
 use lib.ListN.{get_or, set}
-use Rattle.bits.specs.laws.Tab.{Filled, filled_none, filled_more, filled_all}
-use Rattle.places.specs.laws.Table.{in_row, place_in, placed_in, placed}
+use Rattle.bits.proofs.laws.Tab.{Filled, filled_none, filled_more, filled_all}
+use Rattle.places.specs.laws.Table.{in_row, placed_in}
+use Rattle.places.proofs.laws.Table.{place_in, placed}
 use borrow.Author.Rules.{rules}
 use Rattle.places.proofs.gather.Goals as goal
 

@@ -1,5 +1,5 @@
 use Prim.Native.Nat.{◌+◌, ◌-◌, ◌*◌, ◌≤◌}
-use Rattle.bits.specs.laws.Tab.{Filled}
+use Rattle.bits.proofs.laws.Tab.{Filled}
 use Rattle.places.specs.laws.Table.{placed_in}
 use Rattle.places.proofs.gather.Given as goal
 

@@ -3,9 +3,10 @@ use mathlib.Core.Path.{◌∙◌, ap}
 use mathlib.Core.List.{List, ◌++◌}
 use Prim.Native.Nat.{ℕ}
 use Rattle.bits.specs.Bits.{tab}
-use Rattle.bits.specs.laws.Tab.{tab_same}
+use Rattle.bits.proofs.laws.Tab.{tab_same}
 use Rattle.places.specs.Places.{gathered, gathered_at}
-use Rattle.places.specs.laws.Table.{placed_in, placed_twice}
+use Rattle.places.specs.laws.Table.{placed_in}
+use Rattle.places.proofs.laws.Table.{placed_twice}
 use Rattle.places.proofs.gather_four.Goals as goal
 
 pub returns : goal.returns

@@ -4,7 +4,7 @@ use mathlib.Core.Path.{◌≡◌, ap, ap₂, ◌∙◌}
 use Prim.Native.Nat.{ℕ, ◌+◌, ◌-◌}
 use native.Mathlib.Omega.{arith}
 use lib.ListN.{length}
-use Rattle.bits.specs.laws.Parts.{put, put_two}
+use Rattle.bits.proofs.laws.Parts.{put, put_two}
 use Rattle.places.proofs.twice.Goals as goal
 
 doubled : (c whole y z : List ℕ) → length whole ≡ length c + length c → y ≡ c → z ≡ c

@@ -3,8 +3,8 @@ use mathlib.Core.Path.{ap, ap₂, ◌∙◌}
 use lib.ListN.{length}
 use Rattle.order.specs.Order.{entries, fetched}
 use Rattle.preliminary.specs.Stage.{efr_d}
-use Rattle.preliminary.specs.laws.Stage.{length_w}
-use Rattle.tables.specs.laws.Tables.{ordering_fetches, ordering_entries}
+use Rattle.preliminary.proofs.laws.Stage.{length_w}
+use Rattle.tables.proofs.laws.Tables.{ordering_fetches, ordering_entries}
 use Rattle.preliminary.proofs.arrange.Goals as goal
 
 pub fetch-requires : goal.fetch-requires

@@ -1,7 +1,7 @@
 -- `preliminary::fetch_important` is right: every entry of the table is a place of s.
 use mathlib.Core.Path.{ap, ◌∙◌}
 use Rattle.order.specs.Order.{entries, fetched}
-use Rattle.tables.specs.laws.Tables.{important_asked, important_entries}
+use Rattle.tables.proofs.laws.Tables.{important_asked, important_entries}
 use Rattle.preliminary.proofs.fetch_important.Goals as goal
 
 pub fetch-requires : goal.fetch-requires

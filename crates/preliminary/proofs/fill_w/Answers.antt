@@ -1,5 +1,5 @@
 -- `preliminary::fill_w` is right: the repeated bits, the rest of s, and the CRC.
-use Rattle.preliminary.specs.laws.Parts.{w_laid}
+use Rattle.preliminary.proofs.laws.Parts.{w_laid}
 use borrow.Author.Rules.{rules}
 use Rattle.preliminary.proofs.fill_w.Goals as goal
 

@@ -1,5 +1,5 @@
 -- `preliminary::fill_word` is right: the 65 bits, then the eight.
-use Rattle.preliminary.specs.laws.Parts.{word_laid}
+use Rattle.preliminary.proofs.laws.Parts.{word_laid}
 use Rattle.preliminary.proofs.fill_word.Goals as goal
 
 pub returns : goal.returns

@@ -3,10 +3,10 @@ use mathlib.Core.Path.{refl, ap, ◌∙◌}
 use native.Mathlib.Omega.{arith}
 use lib.ListN.{length, take, drop}
 use lib.Dec.{eqb}
-use Rattle.bits.specs.laws.Parts.{length_lent}
-use Rattle.bits.specs.laws.Sum.{bits_take, bits_drop}
-use Rattle.preliminary.specs.laws.Parts.{crc_divisible, crc_judged}
-use Rattle.preliminary.specs.laws.Stage.{length_s, bits_s}
+use Rattle.bits.proofs.laws.Parts.{length_lent}
+use Rattle.bits.proofs.laws.Sum.{bits_take, bits_drop}
+use Rattle.preliminary.proofs.laws.Parts.{crc_divisible, crc_judged}
+use Rattle.preliminary.proofs.laws.Stage.{length_s, bits_s}
 use Rattle.preliminary.proofs.is_good.Goals as goal
 
 pub fill_word-requires : goal.fill_word-requires

@@ -2,7 +2,7 @@
 use mathlib.Core.Path.{ap, ◌∙◌}
 use Rattle.order.specs.Order.{entries, put_back}
 use Rattle.preliminary.specs.Stage.{w_of}
-use Rattle.tables.specs.laws.Tables.{ordering_puts_back, ordering_entries}
+use Rattle.tables.proofs.laws.Tables.{ordering_puts_back, ordering_entries}
 use Rattle.preliminary.proofs.put_back.Goals as goal
 
 pub put_back-requires : goal.put_back-requires

@@ -1,7 +1,7 @@
 -- `preliminary::put_crc` is right: what the 65 bits and eight zeros leave.
 use Rattle.bits.specs.Bits.{zeros}
-use Rattle.bits.specs.laws.Sum.{length_zeros, bits_zeros}
-use Rattle.preliminary.specs.laws.Parts.{crc_divisible, crc_put}
+use Rattle.bits.proofs.laws.Sum.{length_zeros, bits_zeros}
+use Rattle.preliminary.proofs.laws.Parts.{crc_divisible, crc_put}
 use Rattle.preliminary.proofs.put_crc.Goals as goal
 
 pub remainder-requires : goal.remainder-requires

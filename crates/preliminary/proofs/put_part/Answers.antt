@@ -1,5 +1,5 @@
 -- `preliminary::put_part` is right: the part, then the bit twice.
-use Rattle.preliminary.specs.laws.Parts.{part_laid}
+use Rattle.preliminary.proofs.laws.Parts.{part_laid}
 use Rattle.preliminary.proofs.put_part.Goals as goal
 
 pub returns : goal.returns

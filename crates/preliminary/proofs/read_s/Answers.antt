@@ -1,5 +1,5 @@
 -- `preliminary::read_s` is right: five parts of w, one after another.
-use Rattle.preliminary.specs.laws.Parts.{s_laid}
+use Rattle.preliminary.proofs.laws.Parts.{s_laid}
 use Rattle.preliminary.proofs.read_s.Goals as goal
 
 pub returns : goal.returns

@@ -1,5 +1,5 @@
 -- `preliminary::repeat_bits` is right: four parts of s, each with its repeated bit.
-use Rattle.preliminary.specs.laws.Parts.{repeats_laid}
+use Rattle.preliminary.proofs.laws.Parts.{repeats_laid}
 use Rattle.preliminary.proofs.repeat_bits.Goals as goal
 
 pub returns : goal.returns

@@ -3,7 +3,7 @@ use mathlib.Core.Path.{sym, ap, ◌∙◌, subst}
 use lib.ListN.{length}
 use Rattle.bits.specs.Bits.{Bits}
 use Rattle.preliminary.specs.Stage.{s_of, crc_good}
-use Rattle.preliminary.specs.laws.Stage.{length_of, bits_of}
+use Rattle.preliminary.proofs.laws.Stage.{length_of, bits_of}
 use Rattle.preliminary.proofs.restore.Goals as goal
 
 pub is_good-requires : goal.is_good-requires

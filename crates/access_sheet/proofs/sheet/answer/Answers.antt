@@ -1,9 +1,9 @@
 -- `answer` is right: each way through it is one of the answer's.
 use Rattle.std.proofs.Common.{rules, arith, sym, ap, ◌∙◌, ◌≡◌, ℕ, List, ◌++◌, length, take, drop, length-append, length-drop, length-take-le, take_all}
 use Rattle.text.specs.Text.{put_at}
-use Rattle.text.specs.laws.Put.{put_then}
+use Rattle.text.proofs.laws.Put.{put_then}
 use Rattle.access_sheet.specs.Sheet.{said, sheet_answer}
-use Rattle.access_sheet.specs.laws.Sheet.{answer_short, answer_bad, answer_said}
+use Rattle.access_sheet.proofs.laws.Sheet.{answer_short, answer_bad, answer_said}
 use Rattle.access_sheet.proofs.sheet.answer.Goals as goal
 
 pub returns-then-line-ne11 : goal.returns-then-line-ne11

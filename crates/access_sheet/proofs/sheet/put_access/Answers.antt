@@ -3,11 +3,11 @@ use Rattle.std.proofs.Common.{rules, arith, sym, ap, ◌∙◌, ◌≡◌, subst
 use Rattle.std.proofs.Math.ListN.{replicate, length-map}
 use Rattle.bits.specs.Bits.{zeros}
 use Rattle.text.specs.Text.{digit_of, bit_character, refused_as, put_at}
-use Rattle.text.specs.laws.Put.{put_whole, length_refused}
+use Rattle.text.proofs.laws.Put.{put_whole, length_refused}
 use Rattle.answers.specs.Answers.{Meets, number_of}
 use Rattle.answers.specs.declared.Told.{Told}
 use Rattle.coder.specs.Entries.{access_sent}
-use Rattle.access_sheet.specs.laws.Sheet.{one_digit, said_done, said_refused}
+use Rattle.access_sheet.proofs.laws.Sheet.{one_digit, said_done, said_refused}
 use Rattle.access_sheet.proofs.sheet.put_access.Goals as goal
 
 -- the library is asked for the characters' bytes, with a buffer of zeros

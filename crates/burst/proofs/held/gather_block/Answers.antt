@@ -1,5 +1,5 @@
 -- `burst::held::gather_block` is right: the bursts are put in order, each bit is found in its place, and a byte over 2 counts as missing.
-use Rattle.burst.specs.laws.Held.{held_block_is}
+use Rattle.burst.proofs.laws.Held.{held_block_is}
 use Rattle.burst.proofs.held.gather_block.Goals as goal
 
 pub returns : goal.returns

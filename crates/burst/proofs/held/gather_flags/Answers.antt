@@ -5,7 +5,7 @@ use native.Mathlib.Omega.{arith}
 use borrow.Author.Rules.{rules}
 use Rattle.bits.specs.Bits.{tab, tab_from, value}
 use Rattle.burst.specs.Held.{held_flag_at, held_flags, saying, sayers}
-use Rattle.burst.specs.laws.Held.{flags_more, flags_room, saying_bit}
+use Rattle.burst.proofs.laws.Held.{flags_more, flags_room, saying_bit}
 use Rattle.burst.proofs.held.gather_flags.Goals as goal
 
 pub loop-i-init : goal.loop-i-init

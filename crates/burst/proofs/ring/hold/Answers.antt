@@ -1,5 +1,5 @@
 -- `burst::ring::hold` is right: the part that is burst B's is written, and the rest stands.
-use Rattle.burst.specs.laws.Ring.{kept_is}
+use Rattle.burst.proofs.laws.Ring.{kept_is}
 use Rattle.burst.proofs.ring.hold.Goals as goal
 
 pub returns : goal.returns

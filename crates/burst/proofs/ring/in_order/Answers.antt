@@ -1,5 +1,5 @@
 -- `burst::ring::in_order` is right: the part from burst B on, and then the part before it.
-use Rattle.burst.specs.laws.Ring.{in_order_is}
+use Rattle.burst.proofs.laws.Ring.{in_order_is}
 use Rattle.burst.proofs.ring.in_order.Goals as goal
 
 pub returns : goal.returns

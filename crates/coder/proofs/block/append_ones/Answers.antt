@@ -1,5 +1,5 @@
 -- `coder::block::append_ones` is right: its three parts make the whole.
-use Rattle.coder.specs.laws.Protected.{laid}
+use Rattle.coder.proofs.laws.Protected.{laid}
 use Rattle.coder.proofs.block.append_ones.Goals as goal
 
 pub returns : goal.returns

@@ -3,7 +3,7 @@ use mathlib.Core.Path.{ap, ◌∙◌}
 use lib.ListN.{replicate}
 use Rattle.trellis.specs.Nearest.{longest}
 use Rattle.convolution.specs.Pairs.{coded}
-use Rattle.coder.specs.laws.Protected.{laid_front, laid_long, coded_asked}
+use Rattle.coder.proofs.laws.Protected.{laid_front, laid_long, coded_asked}
 use Rattle.coder.proofs.block.code.Goals as goal
 
 pub slice_bounds-code-end : goal.slice_bounds-code-end

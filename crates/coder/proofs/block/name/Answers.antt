@@ -4,8 +4,8 @@ use Prim.Native.Nat.{◌+◌, ◌-◌}
 use native.Mathlib.Omega.{arith}
 use Rattle.coder.specs.Whose.{naming}
 use Rattle.coder.specs.declared.Whose.TheVariants.{Named}
-use Rattle.coder.specs.laws.Heard.{divisible}
-use Rattle.coder.specs.laws.Whose.{name_is, name_fits, name_count}
+use Rattle.coder.proofs.laws.Heard.{divisible}
+use Rattle.coder.proofs.laws.Whose.{name_is, name_fits, name_count}
 use Rattle.coder.proofs.block.name.Goals as goal
 
 pub overflow_add-m : goal.overflow_add-m

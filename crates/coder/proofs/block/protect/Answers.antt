@@ -1,5 +1,5 @@
 -- `coder::block::protect` is right: what d followed by ones leaves is d's parity, and it takes the place of the ones.
-use Rattle.coder.specs.laws.Protected.{front_divisible, protected}
+use Rattle.coder.proofs.laws.Protected.{front_divisible, protected}
 use Rattle.coder.proofs.block.protect.Goals as goal
 
 pub remainder-p-requires : goal.remainder-p-requires

@@ -2,7 +2,7 @@
 use native.Mathlib.Omega.{arith}
 use Rattle.coder.specs.Received.{block_heard}
 use Rattle.coder.specs.laws.Format.{generator_of}
-use Rattle.coder.specs.laws.Heard.{heard_divisible, heard_bits, heard_count, heard_good, handed_good, handed_bad}
+use Rattle.coder.proofs.laws.Heard.{heard_divisible, heard_bits, heard_count, heard_good, handed_good, handed_bad}
 use mathlib.Core.Path.{◌∙◌}
 use Rattle.coder.proofs.block.receive.Goals as goal
 

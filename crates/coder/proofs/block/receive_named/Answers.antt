@@ -6,8 +6,8 @@ use native.Mathlib.Omega.{arith}
 use Rattle.coder.specs.Whose.{naming}
 use Rattle.coder.specs.declared.Whose.TheVariants.{Named}
 use Rattle.coder.specs.laws.Format.{generator_of}
-use Rattle.coder.specs.laws.Heard.{heard_divisible, heard_bits}
-use Rattle.coder.specs.laws.Whose.{name_is, name_fits, name_count, same_bits}
+use Rattle.coder.proofs.laws.Heard.{heard_divisible, heard_bits}
+use Rattle.coder.proofs.laws.Whose.{name_is, name_fits, name_count, same_bits}
 use Rattle.coder.proofs.block.receive_named.Goals as goal
 
 pub colour_of-who-requires : goal.colour_of-who-requires

@@ -5,7 +5,7 @@ use lib.ListN.{length}
 use Rattle.bits.specs.Bits.{Bits}
 use Rattle.convolution.specs.Pairs.{coded}
 use Rattle.coder.specs.Blocks.{control_block}
-use Rattle.coder.specs.laws.Control.{bits_control, length_control}
+use Rattle.coder.proofs.laws.Control.{bits_control, length_control}
 use Rattle.coder.proofs.control.code.Goals as goal
 
 pub code-requires : goal.code-requires

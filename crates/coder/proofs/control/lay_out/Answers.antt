@@ -1,5 +1,5 @@
 -- `coder::control::lay_out` is right: its three parts make the whole.
-use Rattle.coder.specs.laws.Control.{lent_control, laid_control}
+use Rattle.coder.proofs.laws.Control.{lent_control, laid_control}
 use Rattle.coder.proofs.control.lay_out.Goals as goal
 
 pub put_control-requires : goal.put_control-requires

@@ -3,8 +3,8 @@ use mathlib.Core.Path.{refl, ◌∙◌}
 use lib.Dec.{lit≤}
 use Rattle.parity.specs.Division.{control_g}
 use Rattle.coder.specs.Received.{block_heard}
-use Rattle.coder.specs.laws.Control.{control_asked, control_bits, control_count, control_good}
-use Rattle.coder.specs.laws.Heard.{handed_good, handed_bad}
+use Rattle.coder.proofs.laws.Control.{control_asked, control_bits, control_count, control_good}
+use Rattle.coder.proofs.laws.Heard.{handed_good, handed_bad}
 use Rattle.coder.proofs.control.receive.Goals as goal
 
 pub nearest-count-requires : goal.nearest-count-requires

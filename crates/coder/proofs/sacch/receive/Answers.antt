@@ -3,7 +3,7 @@ use mathlib.Core.Path.{ap, subst}
 use Rattle.answers.specs.Answers.{Meets}
 use Rattle.parity.specs.Division.{control_g}
 use Rattle.coder.specs.Received.{Hearing, block_heard, hands}
-use Rattle.coder.specs.laws.Heard.{message_given}
+use Rattle.coder.proofs.laws.Heard.{message_given}
 use Rattle.coder.proofs.sacch.receive.Goals as goal
 
 pub receive-requires : goal.receive-requires

@@ -1,5 +1,5 @@
 -- `coder::speech::code` is right: u is filled with its parity in the middle and coded, and class 2 stands behind the pairs.
-use Rattle.coder.specs.laws.Speech.{filled_u, coded_asked, parts}
+use Rattle.coder.proofs.laws.Speech.{filled_u, coded_asked, parts}
 use Rattle.coder.proofs.speech.code.Goals as goal
 
 pub code-requires : goal.code-requires

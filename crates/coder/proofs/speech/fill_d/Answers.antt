@@ -4,9 +4,9 @@ use Prim.Native.Nat.{◌*◌}
 use native.Mathlib.Omega.{arith}
 use borrow.Author.Rules.{rules}
 use lib.ListN.{length-set}
-use Rattle.bits.specs.laws.Tab.{filled_none, filled_pair, filled_all}
+use Rattle.bits.proofs.laws.Tab.{filled_none, filled_pair, filled_all}
 use Rattle.coder.specs.Received.{speech_dat}
-use Rattle.coder.specs.laws.SpeechHeard.{d_even, d_odd}
+use Rattle.coder.proofs.laws.SpeechHeard.{d_even, d_odd}
 use Rattle.coder.proofs.speech.fill_d.Goals as goal
 
 pub loop-j-init : goal.loop-j-init

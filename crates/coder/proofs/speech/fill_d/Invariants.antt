@@ -1,5 +1,5 @@
 use Prim.Native.Nat.{◌-◌, ◌*◌, ◌≤◌}
-use Rattle.bits.specs.laws.Tab.{Filled}
+use Rattle.bits.proofs.laws.Tab.{Filled}
 use Rattle.coder.specs.Received.{speech_dat}
 use Rattle.coder.proofs.speech.fill_d.Given as goal
 

@@ -1,5 +1,5 @@
 -- `coder::speech::fill_u` is right: class 1 in its order, its parity in the middle, four zeros at the end.
-use Rattle.coder.specs.laws.Reordered.{u_filled}
+use Rattle.coder.proofs.laws.Reordered.{u_filled}
 use Rattle.coder.proofs.speech.fill_u.Goals as goal
 
 pub returns : goal.returns

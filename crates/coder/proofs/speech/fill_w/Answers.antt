@@ -1,5 +1,5 @@
 -- `coder::speech::fill_w` is right: two parts, one after the other.
-use Rattle.coder.specs.laws.SpeechHeard.{laid_check}
+use Rattle.coder.proofs.laws.SpeechHeard.{laid_check}
 use Rattle.coder.proofs.speech.fill_w.Goals as goal
 
 pub returns : goal.returns

@@ -1,7 +1,7 @@
 -- `coder::speech::hand_over` is right: two parts, one after the other.
 use lib.ListN.{drop}
-use Rattle.bits.specs.laws.Sum.{over_take, over_drop}
-use Rattle.coder.specs.laws.SpeechHeard.{laid_speech}
+use Rattle.bits.proofs.laws.Sum.{over_take, over_drop}
+use Rattle.coder.proofs.laws.SpeechHeard.{laid_speech}
 use borrow.Author.Rules.{rules}
 use Rattle.coder.proofs.speech.hand_over.Goals as goal
 

@@ -1,5 +1,5 @@
 -- `coder::speech::is_good` is right: the verdict is that of division by the speech generator.
-use Rattle.coder.specs.laws.SpeechHeard.{check_divisible, check_is}
+use Rattle.coder.proofs.laws.SpeechHeard.{check_divisible, check_is}
 use Rattle.coder.proofs.speech.is_good.Goals as goal
 
 pub leaves_ones-requires : goal.leaves_ones-requires

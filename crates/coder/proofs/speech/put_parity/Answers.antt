@@ -1,5 +1,5 @@
 -- `coder::speech::put_parity` is right: what the first 50 bits followed by ones leave is their parity.
-use Rattle.coder.specs.laws.Speech.{first_divisible, parity_put}
+use Rattle.coder.proofs.laws.Speech.{first_divisible, parity_put}
 use Rattle.coder.proofs.speech.put_parity.Goals as goal
 
 pub remainder-requires : goal.remainder-requires

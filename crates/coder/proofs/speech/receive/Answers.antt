@@ -3,10 +3,10 @@ use mathlib.Core.Path.{refl}
 use native.Mathlib.Omega.{arith}
 use lib.Dec.{lit≤}
 use lib.Seq.{length-take-le}
-use Rattle.bits.specs.laws.Sum.{over_take}
+use Rattle.bits.proofs.laws.Sum.{over_take}
 use Rattle.coder.specs.Received.{speech_heard}
-use Rattle.coder.specs.laws.Heard.{handed_good, handed_bad}
-use Rattle.coder.specs.laws.SpeechHeard.{bits_v, long_v, bits_f, long_f, speech_is, count_is, bits_are}
+use Rattle.coder.proofs.laws.Heard.{handed_good, handed_bad}
+use Rattle.coder.proofs.laws.SpeechHeard.{bits_v, long_v, bits_f, long_f, speech_is, count_is, bits_are}
 use Rattle.coder.proofs.speech.receive.Goals as goal
 
 pub nearest-count-requires : goal.nearest-count-requires

@@ -2,7 +2,7 @@
 use mathlib.Core.Path.{sym, ◌∙◌}
 use native.Mathlib.Omega.{arith}
 use lib.ListN.{length-set}
-use Rattle.coder.specs.laws.Reordered.{reordered_none, reordered_more, reordered_all}
+use Rattle.coder.proofs.laws.Reordered.{reordered_none, reordered_more, reordered_all}
 use Rattle.coder.proofs.speech.reorder.Goals as goal
 
 pub loop-k-init : goal.loop-k-init

@@ -6,9 +6,9 @@ use native.Mathlib.Nat.{not-suc-le-zero}
 use native.Mathlib.Omega.{arith}
 use lib.ListN.{get_or}
 use borrow.Author.Count.{below_more}
-use Rattle.bits.specs.laws.Cases.{not_true, false_true}
+use Rattle.bits.proofs.laws.Cases.{not_true, false_true}
 use Rattle.frames.specs.Frame.{fixed_right}
-use Rattle.frames.specs.laws.Layout.{sync_right, one_right, all_right}
+use Rattle.frames.proofs.laws.Layout.{sync_right, one_right, all_right}
 use Rattle.frames.proofs.layout.is_framed.Goals as goal
 
 pub returns-then-not-none_over : goal.returns-then-not-none_over

@@ -4,9 +4,10 @@ use mathlib.Core.Path.{◌≡◌, sym, ap, ◌∙◌, subst}
 use Prim.Native.Nat.{ℕ, ◌+◌, ◌-◌, ◌*◌}
 use native.Mathlib.Omega.{arith}
 use lib.ListN.{length, get_or, take, drop, replicate, length-replicate, get_or-replicate}
-use Rattle.bits.specs.laws.Parts.{put, length_lent, filled_part}
-use Rattle.bits.specs.laws.Tab.{Filled, filled_none, filled_all}
-use Rattle.frames.specs.laws.Layout.{laid_at, laid_out, laid_first, laid_group}
+use Rattle.bits.proofs.laws.Parts.{put, length_lent, filled_part}
+use Rattle.bits.proofs.laws.Tab.{Filled, filled_none, filled_all}
+use Rattle.frames.specs.laws.Layout.{laid_at, laid_out}
+use Rattle.frames.proofs.laws.Layout.{laid_first, laid_group}
 use Rattle.frames.proofs.layout.lay_out.Goals as goal
 
 pub loop-group-init : goal.loop-group-init

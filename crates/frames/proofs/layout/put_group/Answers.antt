@@ -4,7 +4,7 @@ use mathlib.Core.Path.{◌≡◌, refl, ap, ap₂, ◌∙◌}
 use Prim.Native.Nat.{ℕ}
 use native.Mathlib.Omega.{arith}
 use lib.ListN.{length, take, replicate}
-use Rattle.bits.specs.laws.Parts.{put_two, length_lent}
+use Rattle.bits.proofs.laws.Parts.{put_two, length_lent}
 use Rattle.frames.proofs.layout.put_group.Goals as goal
 
 pub returns : goal.returns

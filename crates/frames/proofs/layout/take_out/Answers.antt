@@ -4,9 +4,10 @@ use mathlib.Core.Path.{◌≡◌, sym, ap, ◌∙◌, subst}
 use Prim.Native.Nat.{ℕ, ◌+◌, ◌-◌, ◌*◌}
 use native.Mathlib.Omega.{arith}
 use lib.ListN.{length, get_or, take, drop}
-use Rattle.bits.specs.laws.Parts.{put, length_lent, filled_part}
-use Rattle.bits.specs.laws.Tab.{Filled, filled_none, filled_all}
-use Rattle.frames.specs.laws.Layout.{taken_at, taken_out, taken_group}
+use Rattle.bits.proofs.laws.Parts.{put, length_lent, filled_part}
+use Rattle.bits.proofs.laws.Tab.{Filled, filled_none, filled_all}
+use Rattle.frames.specs.laws.Layout.{taken_at, taken_out}
+use Rattle.frames.proofs.laws.Layout.{taken_group}
 use Rattle.frames.proofs.layout.take_out.Goals as goal
 
 pub loop-group-init : goal.loop-group-init

@@ -1,5 +1,5 @@
 use Prim.Native.Nat.{◌-◌, ◌*◌, ◌≤◌}
-use Rattle.bits.specs.laws.Tab.{Filled}
+use Rattle.bits.proofs.laws.Tab.{Filled}
 use Rattle.frames.specs.laws.Layout.{taken_at}
 use Rattle.frames.proofs.layout.take_out.Given as goal
 

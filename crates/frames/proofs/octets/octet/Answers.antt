@@ -2,7 +2,7 @@
 use mathlib.Core.Path.{refl, ◌∙◌}
 use native.Mathlib.Omega.{arith}
 use Rattle.bits.specs.Bits.{value}
-use Rattle.frames.specs.laws.Octets.{value_more, value_whole, value_less}
+use Rattle.frames.proofs.laws.Octets.{value_more, value_whole, value_less}
 use Rattle.frames.proofs.octets.octet.Goals as goal
 
 pub loop-i-init : goal.loop-i-init

@@ -4,9 +4,9 @@ use Prim.Native.Nat.{ℕ, ◌+◌, ◌-◌, ◌*◌, ◌/◌}
 use native.Mathlib.Omega.{arith}
 use lib.ListN.{length, take, drop}
 use Rattle.bits.specs.Bits.{tab, value}
-use Rattle.bits.specs.laws.Parts.{length_lent}
-use Rattle.bits.specs.laws.Sum.{bits_take, bits_drop}
-use Rattle.bits.specs.laws.Tab.{filled_none, filled_more, filled_all}
+use Rattle.bits.proofs.laws.Parts.{length_lent}
+use Rattle.bits.proofs.laws.Sum.{bits_take, bits_drop}
+use Rattle.bits.proofs.laws.Tab.{filled_none, filled_more, filled_all}
 use Rattle.frames.specs.Octets.{packed}
 use Rattle.frames.proofs.octets.pack.Invariants.{octet_of}
 use Rattle.frames.proofs.octets.pack.Goals as goal

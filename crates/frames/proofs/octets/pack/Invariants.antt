@@ -2,7 +2,7 @@ use mathlib.Core.List.{List}
 use Prim.Native.Nat.{ℕ, ◌-◌, ◌*◌}
 use lib.ListN.{length, take, drop}
 use Rattle.bits.specs.Bits.{value}
-use Rattle.bits.specs.laws.Tab.{Filled}
+use Rattle.bits.proofs.laws.Tab.{Filled}
 use Rattle.frames.proofs.octets.pack.Given as goal
 
 abbrev pub octet_of : List ℕ → ℕ → ℕ

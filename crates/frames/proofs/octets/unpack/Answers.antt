@@ -5,11 +5,11 @@ use Prim.Native.Nat.{ℕ, ◌+◌, ◌-◌, ◌*◌, ◌≤◌}
 use native.Mathlib.Omega.{arith}
 use lib.ListN.{length, get_or, take, drop}
 use Rattle.bits.specs.Bits.{digits}
-use Rattle.bits.specs.laws.Parts.{put, length_lent, filled_part}
-use Rattle.bits.specs.laws.Tab.{Filled, filled_none, filled_all}
-use Rattle.bits.specs.laws.Value.{length_digits}
+use Rattle.bits.proofs.laws.Parts.{put, length_lent, filled_part}
+use Rattle.bits.proofs.laws.Tab.{Filled, filled_none, filled_all}
+use Rattle.bits.proofs.laws.Value.{length_digits}
 use Rattle.frames.specs.Octets.{unpacked}
-use Rattle.frames.specs.laws.Octets.{bit_of, bit_at}
+use Rattle.frames.proofs.laws.Octets.{bit_of, bit_at}
 use Rattle.frames.proofs.octets.unpack.Goals as goal
 
 pub loop-o-init : goal.loop-o-init

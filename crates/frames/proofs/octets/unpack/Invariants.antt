@@ -1,7 +1,7 @@
 use Prim.Native.Nat.{◌-◌, ◌*◌, ◌≤◌}
 use lib.ListN.{length}
-use Rattle.bits.specs.laws.Tab.{Filled}
-use Rattle.frames.specs.laws.Octets.{bit_of}
+use Rattle.bits.proofs.laws.Tab.{Filled}
+use Rattle.frames.proofs.laws.Octets.{bit_of}
 use Rattle.frames.proofs.octets.unpack.Given as goal
 
 abbrev pub invariant-loop-o : goal.invariant-loop-o

@@ -4,7 +4,7 @@ use Prim.Native.Nat.{ℕ}
 use native.Mathlib.Omega.{arith}
 use Rattle.hub.specs.Hub.{place_of, stands_now}
 use Rattle.hub.specs.declared.Said.TheVariants.{Place}
-use Rattle.hub.specs.laws.Answers.{enrols_none, enrols_taken, enrols_full, enrols, enrol_met}
+use Rattle.hub.proofs.laws.Answers.{enrols_none, enrols_taken, enrols_full, enrols, enrol_met}
 use Rattle.hub.proofs.Hub.enrol.Goals as goal
 
 pub returns-then-identity-gt63 : goal.returns-then-identity-gt63

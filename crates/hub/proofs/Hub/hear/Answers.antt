@@ -3,7 +3,7 @@ use mathlib.Core.Path.{◌≡◌, refl, sym, ap, ◌∙◌}
 use lib.ListN.{length}
 use borrow.Author.Rules.{rules}
 use Rattle.hub.specs.declared.Answered.{Answered}
-use Rattle.hub.specs.laws.Answers.{hears_length, hear_met, on_named, on_refused, heard_on}
+use Rattle.hub.proofs.laws.Answers.{hears_length, hear_met, on_named, on_refused, heard_on}
 use Rattle.hub.proofs.Hub.hear.Goals as goal
 
 pub returns-then-d-ne8 : goal.returns-then-d-ne8

@@ -2,8 +2,8 @@
 use mathlib.Core.Path.{sym, ◌∙◌}
 use native.Mathlib.Omega.{arith}
 use Rattle.hub.specs.Hub.{who_at, stands_now}
-use Rattle.hub.specs.laws.Answers.{removes_over, removes_none, removes, remove_met}
-use Rattle.hub.specs.laws.Standing.{standing_within}
+use Rattle.hub.proofs.laws.Answers.{removes_over, removes_none, removes, remove_met}
+use Rattle.hub.proofs.laws.Standing.{standing_within}
 use Rattle.hub.proofs.Hub.remove.Goals as goal
 
 pub returns-then-place-gt29 : goal.returns-then-place-gt29

@@ -3,7 +3,7 @@ use mathlib.Core.Path.{refl, subst}
 use Rattle.answers.specs.Answers.{Answer, Meets}
 use Rattle.burst.specs.declared.numbers.Ending.TheVariants.{Block, Nothing}
 use Rattle.stream.specs.Receiving.{at_ending}
-use Rattle.stream.specs.laws.Receiving.{at_ending_lem}
+use Rattle.stream.proofs.laws.Receiving.{at_ending_lem}
 use Rattle.chart.specs.declared.Taken.{Taken}
 use Rattle.chart.specs.declared.Taken.TheVariants.{Waiting}
 use Rattle.stream.proofs.receiver.answer.Goals as goal

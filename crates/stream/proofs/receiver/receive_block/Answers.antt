@@ -1,5 +1,5 @@
 -- `stream::receiver::receive_block` is right: the block that is held is received as the kind that its flags say.
-use Rattle.stream.specs.laws.Receiving.{held_given, block_brought}
+use Rattle.stream.proofs.laws.Receiving.{held_given, block_brought}
 use Rattle.stream.proofs.receiver.receive_block.Goals as goal
 
 pub receive-requires : goal.receive-requires

@@ -1,5 +1,5 @@
 -- `stream::sender::code` is right: what coder's entry of the kind writes is the block.
-use Rattle.stream.specs.laws.Sending.{control_coded, speech_coded}
+use Rattle.stream.proofs.laws.Sending.{control_coded, speech_coded}
 use Rattle.stream.proofs.sender.code.Goals as goal
 
 pub returns-then-d-eq184 : goal.returns-then-d-eq184

@@ -1,6 +1,6 @@
 -- Twenty digits hold a number of 64 bits.
 use Rattle.std.proofs.Common.{arith}
-use Rattle.text.specs.laws.Decimal.{at_most_twenty}
+use Rattle.text.proofs.laws.Decimal.{at_most_twenty}
 use Rattle.text.proofs.decimal.decimal.Goals as goal
 
 pub write_digits-requires : goal.write_digits-requires

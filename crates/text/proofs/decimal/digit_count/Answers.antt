@@ -1,6 +1,6 @@
 -- The digits are counted until nothing is left of the number.
 use Rattle.std.proofs.Common.{arith, ap, ◌∙◌, ℕ, ◌/◌}
-use Rattle.text.specs.laws.Decimal.{tenth, first_tenth, next_tenth, one_more, enough}
+use Rattle.text.proofs.laws.Decimal.{tenth, first_tenth, next_tenth, one_more, enough}
 use Rattle.text.proofs.decimal.digit_count.Goals as goal
 
 pub loop-rest-init : goal.loop-rest-init

@@ -5,7 +5,7 @@ use native.Mathlib.Nat.{le_refl}
 use lib.ListN.{length-set}
 use lib.Seq.{slice_empty}
 use Rattle.text.specs.Decimal.{last_digits}
-use Rattle.text.specs.laws.Decimal.{digits_step}
+use Rattle.text.proofs.laws.Decimal.{digits_step}
 use Rattle.text.proofs.decimal.write_digits.Goals as goal
 
 pub loop-i-init : goal.loop-i-init

@@ -6,7 +6,7 @@ use borrow.Author.Count.{below_none, below_more}
 use borrow.Author.Rules.{rules}
 use lib.ListN.{get_or}
 use Rattle.text.specs.Hexadecimal.{hex_digit}
-use Rattle.text.specs.laws.Hexadecimal.{hex_even, hex_each, is_hex_lem, not_hex}
+use Rattle.text.proofs.laws.Hexadecimal.{hex_even, hex_each, is_hex_lem, not_hex}
 use Rattle.text.proofs.hex.is_hex.Goals as goal
 
 pub returns-then-text-ne0 : goal.returns-then-text-ne0

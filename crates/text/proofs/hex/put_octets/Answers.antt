@@ -5,8 +5,8 @@ use native.Mathlib.Omega.{arith}
 use borrow.Author.Rules.{rules}
 use lib.ListN.{length-set}
 use Rattle.text.specs.Hexadecimal.{hex_of}
-use Rattle.text.specs.laws.Hexadecimal.{length_hex, hex_at}
-use Rattle.text.specs.laws.Put.{putting_none, putting_pair, putting_all}
+use Rattle.text.proofs.laws.Hexadecimal.{length_hex, hex_at}
+use Rattle.text.proofs.laws.Put.{putting_none, putting_pair, putting_all}
 use Rattle.text.proofs.hex.put_octets.Goals as goal
 
 pub loop-i-init : goal.loop-i-init

@@ -1,7 +1,7 @@
 use Prim.Native.Nat.{◌-◌, ◌*◌, ◌≤◌}
 use lib.ListN.{length}
 use Rattle.text.specs.Hexadecimal.{hex_of}
-use Rattle.text.specs.laws.Put.{Putting}
+use Rattle.text.proofs.laws.Put.{Putting}
 use Rattle.text.proofs.hex.put_octets.Given as goal
 
 abbrev pub invariant-loop-i : goal.invariant-loop-i

@@ -4,8 +4,8 @@ use Prim.Native.Nat.{◌+◌, ◌*◌}
 use native.Mathlib.Omega.{arith}
 use borrow.Author.Rules.{rules}
 use Rattle.text.specs.Hexadecimal.{octets_of}
-use Rattle.text.specs.laws.Hexadecimal.{hex_each, length_octets, octet_at}
-use Rattle.text.specs.laws.Put.{putting_none, putting_more, putting_all}
+use Rattle.text.proofs.laws.Hexadecimal.{hex_each, length_octets, octet_at}
+use Rattle.text.proofs.laws.Put.{putting_none, putting_more, putting_all}
 use Rattle.text.proofs.hex.read_octets.Goals as goal
 
 pub loop-i-init : goal.loop-i-init

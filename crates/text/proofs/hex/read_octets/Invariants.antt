@@ -1,6 +1,6 @@
 use Prim.Native.Nat.{◌-◌, ◌≤◌}
 use Rattle.text.specs.Hexadecimal.{octets_of}
-use Rattle.text.specs.laws.Put.{Putting}
+use Rattle.text.proofs.laws.Put.{Putting}
 use Rattle.text.proofs.hex.read_octets.Given as goal
 
 abbrev pub invariant-loop-i : goal.invariant-loop-i

@@ -6,7 +6,7 @@ use native.Mathlib.Omega.{arith}
 use borrow.Author.Rules.{rules}
 use lib.ListN.{length-map, get_or-map}
 use Rattle.text.specs.Text.{bit_character}
-use Rattle.text.specs.laws.Put.{putting_none, putting_more, putting_all}
+use Rattle.text.proofs.laws.Put.{putting_none, putting_more, putting_all}
 use Rattle.text.proofs.put.put_bits.Goals as goal
 
 pub loop-i-init : goal.loop-i-init

@@ -2,7 +2,7 @@ use mathlib.Core.List.{map}
 use Prim.Native.Nat.{◌-◌, ◌≤◌}
 use lib.ListN.{length}
 use Rattle.text.specs.Text.{bit_character}
-use Rattle.text.specs.laws.Put.{Putting}
+use Rattle.text.proofs.laws.Put.{Putting}
 use Rattle.text.proofs.put.put_bits.Given as goal
 
 abbrev pub invariant-loop-i : goal.invariant-loop-i

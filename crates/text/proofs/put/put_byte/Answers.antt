@@ -1,6 +1,6 @@
 -- `put_byte` is right: one byte is stored. Assumes nothing.
 use borrow.Author.Rules.{rules}
-use Rattle.text.specs.laws.Put.{put_one}
+use Rattle.text.proofs.laws.Put.{put_one}
 use Rattle.text.proofs.put.put_byte.Goals as goal
 
 pub returns : goal.returns

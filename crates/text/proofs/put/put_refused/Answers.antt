@@ -1,7 +1,7 @@
 -- `put_refused` is right: the word, and the digit right after it. Assumes nothing.
 use Rattle.std.proofs.Common.{rules, arith, ap, ◌∙◌, ℕ, ◌+◌, List, [], ◌∷◌}
 use Rattle.text.specs.Text.{put_at, refused_word, refused_as}
-use Rattle.text.specs.laws.Put.{put_then}
+use Rattle.text.proofs.laws.Put.{put_then}
 use Rattle.text.proofs.put.put_refused.Goals as goal
 
 pub returns : goal.returns

@@ -3,7 +3,7 @@ use mathlib.Core.Path.{refl}
 use Prim.Native.Nat.{◌+◌}
 use borrow.Author.Rules.{rules}
 use lib.ListN.{get_or}
-use Rattle.text.specs.laws.Put.{putting_none, putting_more, putting_all}
+use Rattle.text.proofs.laws.Put.{putting_none, putting_more, putting_all}
 use Rattle.text.proofs.put.put_word.Goals as goal
 
 pub loop-i-init : goal.loop-i-init

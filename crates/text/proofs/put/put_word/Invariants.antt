@@ -1,6 +1,6 @@
 use Prim.Native.Nat.{◌-◌}
 use lib.ListN.{length}
-use Rattle.text.specs.laws.Put.{Putting}
+use Rattle.text.proofs.laws.Put.{Putting}
 use Rattle.text.proofs.put.put_word.Given as goal
 
 abbrev pub invariant-loop-i : goal.invariant-loop-i

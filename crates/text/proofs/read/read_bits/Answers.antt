@@ -5,7 +5,7 @@ use native.Mathlib.Omega.{arith}
 use borrow.Author.Rules.{rules}
 use lib.ListN.{length-map, get_or-map}
 use Rattle.text.specs.Text.{digit_of}
-use Rattle.text.specs.laws.Put.{putting_none, putting_more, putting_all}
+use Rattle.text.proofs.laws.Put.{putting_none, putting_more, putting_all}
 use Rattle.text.proofs.read.read_bits.Goals as goal
 
 pub loop-k-init : goal.loop-k-init

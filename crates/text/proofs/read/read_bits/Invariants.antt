@@ -2,7 +2,7 @@ use mathlib.Core.List.{map}
 use Prim.Native.Nat.{◌-◌, ◌≤◌}
 use lib.ListN.{length}
 use Rattle.text.specs.Text.{digit_of}
-use Rattle.text.specs.laws.Put.{Putting}
+use Rattle.text.proofs.laws.Put.{Putting}
 use Rattle.text.proofs.read.read_bits.Given as goal
 
 abbrev pub invariant-loop-k : goal.invariant-loop-k

@@ -7,7 +7,7 @@ use borrow.Author.Count.{below_none, below_more}
 use borrow.Author.Rules.{rules}
 use lib.ListN.{length, get_or}
 use lib.Seq.{ext_get_or}
-use Rattle.text.specs.laws.Same.{same_bytes_lem, other_bytes}
+use Rattle.text.proofs.laws.Same.{same_bytes_lem, other_bytes}
 use Rattle.text.proofs.read.same.Goals as goal
 
 pub returns-then-a-b : goal.returns-then-a-b

@@ -1,6 +1,6 @@
 -- `without_mark` is right: the first three bytes are laid beside the mark. Assumes nothing.
 use Rattle.std.proofs.Common.{sym, ◌∙◌}
-use Rattle.text.specs.laws.Plain.{marked, unmarked, too_short}
+use Rattle.text.proofs.laws.Plain.{marked, unmarked, too_short}
 use Rattle.text.proofs.read.without_mark.Goals as goal
 
 pub returns-then-text-lt3 : goal.returns-then-text-lt3

@@ -2,7 +2,7 @@
 use Prim.Native.Nat.{◌-◌}
 use native.Mathlib.Omega.{arith}
 use lib.ListN.{length}
-use Rattle.text.specs.laws.Plain.{returned, unreturned, empty}
+use Rattle.text.proofs.laws.Plain.{returned, unreturned, empty}
 use Rattle.text.proofs.read.without_return.Goals as goal
 
 pub returns-then-line-eq0 : goal.returns-then-line-eq0

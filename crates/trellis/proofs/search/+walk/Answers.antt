@@ -1,6 +1,6 @@
 -- `trellis::search::walk` is right: it writes the newest bit of its walk, and its call of itself, one pair earlier, those before.
 use Rattle.std.proofs.Common.{arith}
-use Rattle.trellis.specs.laws.Memory.{walked, stayed}
+use Rattle.trellis.proofs.laws.Memory.{walked, stayed}
 use Rattle.trellis.proofs.search.+walk.Goals as goal
 
 pub returns-then-t-gt0 : goal.returns-then-t-gt0

@@ -2,7 +2,7 @@
 use mathlib.Core.Path.{sym}
 use Prim.Native.Nat.{◌/◌, ◌%◌, ◌^◌}
 use native.Mathlib.Omega.{arith}
-use Rattle.trellis.specs.laws.Steps.{behind}
+use Rattle.trellis.proofs.laws.Steps.{behind}
 use Rattle.trellis.proofs.search.earlier.Goals as goal
 
 pub returns : goal.returns

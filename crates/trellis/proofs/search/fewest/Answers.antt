@@ -1,5 +1,5 @@
 -- `trellis::search::fewest` is right: the number of state 0 after all pairs is that of the nearest block.
-use Rattle.trellis.specs.laws.Memory.{count_is}
+use Rattle.trellis.proofs.laws.Memory.{count_is}
 use Rattle.trellis.proofs.search.fewest.Goals as goal
 
 pub returns : goal.returns

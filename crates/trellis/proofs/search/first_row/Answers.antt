@@ -1,5 +1,5 @@
 -- `trellis::search::first_row` is right: the sixteen numbers are written out.
-use Rattle.trellis.specs.laws.Memory.{row_first}
+use Rattle.trellis.proofs.laws.Memory.{row_first}
 use Rattle.trellis.proofs.search.first_row.Goals as goal
 
 pub returns : goal.returns

@@ -5,7 +5,7 @@ use Prim.Native.Nat.{ℕ, ◌+◌, ◌*◌}
 use native.Mathlib.Omega.{arith}
 use lib.ListN.{get_or}
 use Rattle.trellis.specs.Nearest as spec
-use Rattle.trellis.specs.laws.Memory.{row_none, row_more, costs_of}
+use Rattle.trellis.proofs.laws.Memory.{row_none, row_more, costs_of}
 use borrow.Author.Rules.{rules}
 use Rattle.trellis.proofs.search.last_row.Goals as goal
 

@@ -1,5 +1,5 @@
 -- `trellis::search::nearest` is right: it walks back from state 0 through the choices that the search remembered.
-use Rattle.trellis.specs.laws.Memory.{found, count_is}
+use Rattle.trellis.proofs.laws.Memory.{found, count_is}
 use Rattle.trellis.proofs.search.nearest.Goals as goal
 
 pub returns : goal.returns

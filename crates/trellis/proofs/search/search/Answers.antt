@@ -5,7 +5,8 @@ use Prim.Native.Nat.{ℕ, ◌+◌, ◌*◌}
 use native.Mathlib.Omega.{arith}
 use lib.ListN.{get_or, length-set}
 use Rattle.trellis.specs.Nearest as spec
-use Rattle.trellis.specs.laws.Memory.{Remembers, remembers_none, remembers_more, row_none, row_more, costs_of}
+use Rattle.trellis.specs.laws.Memory.{Remembers}
+use Rattle.trellis.proofs.laws.Memory.{remembers_none, remembers_more, row_none, row_more, costs_of}
 use borrow.Author.Rules.{rules}
 use Rattle.trellis.proofs.search.search.Goals as goal
 

@@ -1,5 +1,5 @@
 -- `trellis::steps::all_costs` is right: its nine calls are made for the nine pairs.
-use Rattle.trellis.specs.laws.Steps.{table_is}
+use Rattle.trellis.proofs.laws.Steps.{table_is}
 use Rattle.trellis.proofs.steps.all_costs.Goals as goal
 
 pub returns : goal.returns

@@ -1,5 +1,5 @@
 -- The word of choices is the sixteen answers of `cheaper`, put together in the order of the states.
-use Rattle.trellis.specs.laws.Steps.{word_is}
+use Rattle.trellis.proofs.laws.Steps.{word_is}
 use Rattle.trellis.proofs.steps.choices.Goals as goal
 
 pub returns : goal.returns

@@ -1,5 +1,5 @@
 -- `trellis::steps::costs` is right: its sixteen calls are made for the pairs that lead into the sixteen states.
-use Rattle.trellis.specs.laws.Steps.{costs_are}
+use Rattle.trellis.proofs.laws.Steps.{costs_are}
 use Rattle.trellis.proofs.steps.costs.Goals as goal
 
 pub returns : goal.returns

@@ -1,5 +1,5 @@
 -- `trellis::steps::step` is right: each state has the fewer of its two ways.
-use Rattle.trellis.specs.laws.Steps.{row_is}
+use Rattle.trellis.proofs.laws.Steps.{row_is}
 use Rattle.trellis.proofs.steps.step.Goals as goal
 
 pub returns : goal.returns

@@ -7,7 +7,7 @@ use lib.ListN.{length}
 use Rattle.answers.specs.Answers.{Answer, Meets}
 use Rattle.burst.specs.Ring.{kept}
 use Rattle.stream.specs.Receiving.{burst_answer, take_told, taken_next, take_answer}
-use Rattle.stream.specs.laws.Receiving.{take_able, done_taking, refused_taking}
+use Rattle.stream.proofs.laws.Receiving.{take_able, done_taking, refused_taking}
 use Rattle.chart.specs.Totals.{counted}
 use Rattle.chart.specs.declared.Taken.{Taken}
 use Rattle.chart.specs.declared.totals.Totals.{Totals}

@@ -4,7 +4,7 @@ use lib.ListN.{length}
 use Rattle.bits.specs.Bits.{zeros}
 use Rattle.places.specs.Places.{four, flags_of}
 use Rattle.stream.specs.Sending.{end_told, end_bursts, end_next, end_answer}
-use Rattle.stream.specs.laws.Sending.{end_able, done_afterwards, refused_afterwards}
+use Rattle.stream.proofs.laws.Sending.{end_able, done_afterwards, refused_afterwards}
 use borrow.Author.Rules.{rules}
 use Rattle.stream.proofs.sender.Sender.end.Goals as goal
 

@@ -6,7 +6,7 @@ use native.Mathlib.Omega.{arith}
 use lib.ListN.{length}
 use Rattle.places.specs.Places.{four, flags_of}
 use Rattle.stream.specs.Sending.{is_facch, block_of, flag_of, send_told, sent_bursts, sent_next, send_answer}
-use Rattle.stream.specs.laws.Sending.{send_able, done_afterwards, refused_afterwards}
+use Rattle.stream.proofs.laws.Sending.{send_able, done_afterwards, refused_afterwards}
 use Rattle.stream.specs.declared.sender.Sender.{Sender}
 use borrow.Author.Rules.{rules}
 use Rattle.stream.proofs.sender.Sender.send.Goals as goal

@@ -1,0 +1,26 @@
+-- 19: the type is that of the first five bits, as the code looks at them.
+use Rattle.std.specs.Prelude.{Bool, true, false, List, ◌≡◌, ℕ, ◌<◌, eqb, get_or}
+use Rattle.std.proofs.Common.{ap, ap₂, eqb-true}
+use Rattle.bits.specs.Bits.{pick, all_below}
+use Rattle.bits.proofs.laws.Cases.{not_true}
+use Rattle.bits.proofs.laws.Tab.{all_at, all_true, all_same}
+use Rattle.frames.specs.Frame.{uplink, downlink, begins, is_speech}
+
+abbrev pub agrees : List ℕ → List ℕ → ℕ → Bool
+agrees c type i = eqb (get_or c i 0) (get_or type i 0)
+
+pub begins_with : (c type : List ℕ) → ((i : ℕ) → i < 5 → agrees c type i ≡ true) → begins c type ≡ true
+unfolding begins
+begins_with c type each = all_true (agrees c type) 5 each
+
+pub begins_not : (c type : List ℕ) (i : ℕ) → i < 5 → (get_or c i 0 ≡ get_or type i 0 → ⊥) → begins c type ≡ false
+unfolding begins
+begins_not c type i h n = not_true (all_below (agrees c type) 5) (λ t. n (eqb-true (get_or c i 0) (get_or type i 0) (all_at (agrees c type) 5 t i h)))
+
+pub begins_same : (c b type : List ℕ) → ((i : ℕ) → i < 5 → get_or c i 0 ≡ get_or b i 0) → begins c type ≡ begins b type
+unfolding begins
+begins_same c b type e = all_same (agrees c type) (agrees b type) 5 (λ i h. ap (λ (x : ℕ). eqb x (get_or type i 0)) (e i h))
+
+pub speech_same : (c b : List ℕ) → ((i : ℕ) → i < 5 → get_or c i 0 ≡ get_or b i 0) → is_speech c ≡ is_speech b
+unfolding is_speech
+speech_same c b e = ap₂ (λ (x y : Bool). pick x true y) (begins_same c b uplink e) (begins_same c b downlink e)

@@ -1,0 +1,9 @@
+pub mod Places
+pub mod Standing
+pub mod Heard
+pub mod Answers
+pub mod Ends
+pub mod Says
+pub mod Calls
+pub mod Classroom
+pub mod Settled
