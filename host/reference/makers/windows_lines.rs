@@ -3,9 +3,8 @@
 
 use crate::chance::random::Random;
 use crate::makers::{
-    each, efr_lines, fields, frame_lines, help_lines, hub_lines, lend_lines, lesson_lines,
-    mark_lines, missing_lines, received_lines, sent_lines, ties_lines, totals_lines, view_lines,
-    whose_lines,
+    each, efr_lines, fields, help_lines, hub_lines, lend_lines, lesson_lines, mark_lines,
+    missing_lines, received_lines, sent_lines, ties_lines, totals_lines, view_lines, whose_lines,
 };
 use crate::page::MARK;
 
@@ -39,7 +38,7 @@ fn of_other_makers(random: &mut Random, count: usize) -> Vec<Vec<u8>> {
 
 /// So many lines of one of the other makers.
 fn of_another_maker(random: &mut Random, number: usize) -> Vec<Vec<u8>> {
-    match random.below(18) {
+    match random.below(17) {
         0..=4 => lesson_lines::lessons(random, number),
         5 => lend_lines::lines(random, number),
         6 => help_lines::lines(random, number),
@@ -52,7 +51,6 @@ fn of_another_maker(random: &mut Random, number: usize) -> Vec<Vec<u8>> {
         13 => whose_lines::lines(random, number),
         14 => each(random, number, mark_lines::line),
         15 => hub_lines::lines(random, number),
-        16 => frame_lines::lines(random, number),
         _ => each(random, number, view_lines::line),
     }
 }
@@ -129,14 +127,13 @@ fn with_inside(random: &mut Random, line: &[u8], bytes: &[u8]) -> Vec<u8> {
 }
 
 /// Words that bits may follow, more than any verb reads.
-const WORDS: [&[u8]; 10] = [
+const WORDS: [&[u8]; 9] = [
     b"send ",
     b"take 0 ",
     b"trellis ",
     b"speech? ",
     b"access 7 ",
     b"hear ",
-    b"frame 0 ",
     b"lend 464 7 send ",
     b"lend 8 7 access? 5 ",
     b"lend 8 7 hear ",
