@@ -1,4 +1,4 @@
--- What an answer adds to the totals (02, M-100) a second time, by what 01 returns of it: its number, its kind, its block and its count. Proved in laws/Totals.
+-- What an answer adds to the totals (02, M-100) a second time, by what 01 returns of it: its number, its kind, its block and its count. Proved in proofs/laws/Totals.
 use Rattle.std.specs.Prelude.{List, [], ◌∷◌, ℕ, ◌+◌, eqb}
 use Rattle.answers.specs.Answers.{or_none}
 use Rattle.answers.specs.declared.Maybe.{Maybe}

@@ -1,4 +1,4 @@
--- What is promised of sending and receiving together, over the definitions that the entries' contracts cite. Proved in laws/Promises.
+-- What is promised of sending and receiving together, over the definitions that the entries' contracts cite. Proved in proofs/laws/Promises.
 use Rattle.std.specs.Prelude.{List, ◌++◌, ◌≡◌, ℕ, ◌+◌, ◌*◌, ◌≤◌, take, drop}
 use Rattle.answers.specs.declared.Maybe.TheVariants.{None}
 use Rattle.bits.specs.Bits.{given_bits, missing}

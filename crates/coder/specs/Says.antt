@@ -1,5 +1,5 @@
 -- What each entry answers, in 01's own numbers and words: the first refusal that applies; what is sent; THE nearest block of what is
--- received, its count and its verdict. Proved of every entry in laws/Says.
+-- received, its count and its verdict. Proved of every entry in proofs/laws/Says.
 use Rattle.std.specs.Prelude.{List, ◌++◌, ◌≡◌, ℕ, ◌/◌, ◌%◌, ◌≤◌, ◌<◌, length, get_or, take, drop}
 use Rattle.bits.specs.Bits.{NoneOver, Symbols, given_bits, tab, add, ones, digits}
 use Rattle.parity.specs.Division.{remainder, speech_g, control_g, access_g, sch_g}

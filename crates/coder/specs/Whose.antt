@@ -1,4 +1,4 @@
--- 02, M-105: for which identity an access burst was, its whole answer, what it says in 01's numbers, and why the reason is true. Proved in laws/Whose.
+-- 02, M-105: for which identity an access burst was, its whole answer, what it says in 01's numbers, and why the reason is true. Proved in proofs/laws/Whose.
 use Rattle.std.specs.Prelude.{true, List, ◌≡◌, ℕ, ◌+◌, ◌*◌, ◌≤◌, eqb, length, take, drop}
 use Rattle.bits.specs.Bits.{Symbols, none_over, missing, add, digits, value}
 use Rattle.parity.specs.Division.{parity, access_g}

@@ -1,4 +1,4 @@
--- 02, M-104: the register of the workbook's drawing, its cells from cell 0 up. No parity is defined here, it stands in parity, Division: laws/Drawing has
+-- 02, M-104: the register of the workbook's drawing, its cells from cell 0 up. No parity is defined here, it stands in parity, Division: proofs/laws/Drawing has
 -- that such a register works it out, whatever the taps and however many the cells.
 use Rattle.std.specs.Prelude.{Bool, List, [], ◌∷◌, ℕ, zero, suc, ◌-◌, ◌%◌, eqb, length, get_or}
 use Rattle.bits.specs.Bits.{pick, tab, sum}

@@ -36,6 +36,6 @@ examples = refl
 unfoldable pub crc_alone : List ℕ
 crc_alone = speech_block (tab 260 (λ j. pick (eqb j 50) 1 0))
 
--- it is answered by 10 and count 0, and the buffer is left. Proved in laws/Ten
+-- it is answered by 10 and count 0, and the buffer is left. Proved in proofs/laws/Ten
 abbrev pub TenOccurs : Type 0
 TenOccurs = (out : List ℕ) → length out ≡ 244 → FindsBad (efr_received crc_alone out) 10 0 out

@@ -1,4 +1,4 @@
--- 02, M-103: what is promised of sending and receiving together. Proved in laws/Promises.
+-- 02, M-103: what is promised of sending and receiving together. Proved in proofs/laws/Promises.
 use Rattle.std.specs.Prelude.{false, List, ◌≡◌, ℕ, suc, ◌+◌, ◌-◌, ◌*◌, ◌≤◌, get_or, take}
 use Rattle.bits.specs.Bits.{pick, tab, given_as, missing}
 use Rattle.order.specs.Order.{from1, place_in}

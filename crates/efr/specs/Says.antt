@@ -1,4 +1,4 @@
--- What the two entries answer, in 01's own numbers and words. Proved in laws/Says.
+-- What the two entries answer, in 01's own numbers and words. Proved in proofs/laws/Says.
 use Rattle.std.specs.Prelude.{List, ◌++◌, ◌≡◌, ℕ, length, take, drop}
 use Rattle.bits.specs.Bits.{given_bits, ones, zeros}
 use Rattle.parity.specs.Division.{remainder, speech_g, efr_g}

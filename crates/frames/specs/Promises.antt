@@ -1,4 +1,4 @@
--- 02, M-113: what is promised of writing and reading together. Proved in laws/Promises.
+-- 02, M-113: what is promised of writing and reading together. Proved in proofs/laws/Promises.
 use Rattle.std.specs.Prelude.{List, ◌≡◌, ℕ, ◌<◌, length}
 use Rattle.bits.specs.Bits.{NoneOver}
 use Rattle.answers.specs.Answers.{Answer, of_told, returned}

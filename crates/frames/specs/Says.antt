@@ -1,5 +1,5 @@
 -- What writing and reading a frame answer, in 02's numbers and 001's octets and bits, whatever they are given: the first refusal that applies, with the lent buffers as before; or what then stands in
--- them. Proved in laws/Says.
+-- them. Proved in proofs/laws/Says.
 use Rattle.std.specs.Prelude.{List, ◌⊎◌, ◌≡◌, ℕ, ◌<◌, length, get_or, take}
 use Rattle.bits.specs.Bits.{Bits, digits, total}
 use Rattle.order.specs.Order.{from1}

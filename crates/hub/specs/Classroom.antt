@@ -1,4 +1,4 @@
--- What is promised of a hub after any calls, each answered as its contract says, from a fresh one. Proved in laws/Classroom.
+-- What is promised of a hub after any calls, each answered as its contract says, from a fresh one. Proved in proofs/laws/Classroom.
 use Rattle.std.specs.Prelude.{List, [], ◌∷◌, ◌⊎◌, ◌≡◌, ℕ, ◌+◌, ◌*◌, ◌≤◌, ◌<◌}
 use Rattle.bits.specs.Bits.{missing}
 use Rattle.answers.specs.Answers.{Answer}

@@ -1,5 +1,5 @@
 -- What enrol, remove and hear answer, in 02's numbers and places, for every value of a hub: the first refusal that applies, with nothing besides it and all as before; what a
--- call that is done returns, writes and hands back. Proved in laws/Says.
+-- call that is done returns, writes and hands back. Proved in proofs/laws/Says.
 use Rattle.std.specs.Prelude.{List, [], ◌≡◌, ℕ, ◌≤◌, ◌<◌, length}
 use Rattle.bits.specs.Bits.{Symbols}
 use Rattle.answers.specs.Answers.{Answer, number_of, returned}

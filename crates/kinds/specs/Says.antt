@@ -1,4 +1,4 @@
--- What a block brings, in 01's own numbers and values, of THE nearest block of each kind. Proved in laws/Says.
+-- What a block brings, in 01's own numbers and values, of THE nearest block of each kind. Proved in proofs/laws/Says.
 use Rattle.std.specs.Prelude.{List, ◌++◌, ◌≡◌, ℕ, ◌<◌, drop}
 use Rattle.parity.specs.Division.{control_g}
 use Rattle.answers.specs.declared.Maybe.TheVariants.{None, Some}

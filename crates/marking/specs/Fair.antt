@@ -1,5 +1,5 @@
--- 02, M-111: what a class may rely on, once over a channel's numbers; and by coder's entries. Proved in laws/Fair, laws/Accepted and laws/Sent, for the four
--- channels in laws/Channels.
+-- 02, M-111: what a class may rely on, once over a channel's numbers; and by coder's entries. Proved in proofs/laws/Fair, proofs/laws/Accepted and proofs/laws/Sent, for the four
+-- channels in proofs/laws/Channels.
 use Rattle.std.specs.Prelude.{List, ◌≡◌, ℕ, ◌+◌, ◌*◌, ◌≤◌, ◌<◌, length}
 use Rattle.bits.specs.Bits.{Bits, Symbols, missing}
 use Rattle.convolution.specs.Pairs.{coded}

@@ -1,5 +1,5 @@
 -- 02, M-111: what the marker says of a block u and a count, handed in with what was received. It is said in the words of 01, What the decoder answers:
--- candidates, disagreements, the fewest. No decoder is named. Two answers that are allowed are equal: laws/Marks, marks_once.
+-- candidates, disagreements, the fewest. No decoder is named. Two answers that are allowed are equal: proofs/laws/Marks, marks_once.
 use Rattle.std.specs.Prelude.{List, ◌≡◌, ℕ, ◌-◌, ◌*◌, ◌≤◌, length, take, drop}
 use Rattle.bits.specs.Bits.{Bits, Symbols, zeros}
 use Rattle.convolution.specs.Pairs.{coded}

@@ -46,10 +46,10 @@ divide g (suc n) (suc a ∷ w) = divide g n (add g w)
 unfoldable pub remainder : List ℕ → List ℕ → List ℕ
 remainder g w = divide g (length w - length g) w
 
--- 01, Coding rules: the parity bits that, put after d, make the remainder all ones. There is exactly one such list: laws/Division, parity_leaves and parity_only.
+-- 01, Coding rules: the parity bits that, put after d, make the remainder all ones. There is exactly one such list: proofs/laws/Division, parity_leaves and parity_only.
 unfoldable pub parity : List ℕ → List ℕ → List ℕ
 parity g d = remainder g (d ++ ones (length g))
 
--- 02, M-103; 000, 3.1.1.1: the bits that, put after b, make the remainder 0. There is exactly one such list: laws/Division, crc_leaves and crc_only.
+-- 02, M-103; 000, 3.1.1.1: the bits that, put after b, make the remainder 0. There is exactly one such list: proofs/laws/Division, crc_leaves and crc_only.
 unfoldable pub crc : List ℕ → List ℕ → List ℕ
 crc g b = remainder g (b ++ zeros (length g))

@@ -22,7 +22,7 @@ abbrev pub hu : ℕ
 hu = 58
 
 -- the other way: the place of e(x), and the bit that stands at place j of the bursts i and i + 4 of a block, or of burst i of a
--- SACCH message. That these undo the two above is proved in laws/Places.
+-- SACCH message. That these undo the two above is proved in proofs/laws/Places.
 unfoldable pub place_at : ℕ → ℕ
 place_at x = pick (ltb x 57) x (x - 2)
 

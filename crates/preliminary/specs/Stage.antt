@@ -41,7 +41,7 @@ in_w k = pick (leb k 71) k (pick (leb k 121) (k + 2) (pick (leb k 174) (k + 4) (
 unfoldable pub s_of : List ℕ → List ℕ
 s_of w = tab 244 (λ i. from1 w (in_w (suc i)))
 
--- 000, 3.1.1.3: the places in w of the repeated bits' copies, from which nothing is read (laws/Stage, unrepeated)
+-- 000, 3.1.1.3: the places in w of the repeated bits' copies, from which nothing is read (proofs/laws/Stage, unrepeated)
 unfoldable pub copies : List ℕ
 copies = 72 ∷ 73 ∷ 124 ∷ 125 ∷ 179 ∷ 180 ∷ 231 ∷ 232 ∷ []
 

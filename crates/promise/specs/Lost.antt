@@ -1,5 +1,5 @@
 -- 02, M-108: bursts that never came, all at even places among a block's bursts or all at odd, cost nothing that is protected, over the definitions that the contracts of
--- `stream` and `coder` cite. Proved in laws/Lost, on trellis' law of the pairs.
+-- `stream` and `coder` cite. Proved in proofs/laws/Lost, on trellis' law of the pairs.
 use Rattle.std.specs.Prelude.{Bool, true, false, List, [], ◌⊎◌, ◌≡◌, ℕ, ◌+◌, ◌*◌, ◌%◌, ◌≤◌, ◌<◌, eqb, length, get_or}
 use Rattle.bits.specs.Bits.{is_missing, given_bits, pick, tab}
 use Rattle.trellis.specs.Lost.{OneOfEach, MissingIn}

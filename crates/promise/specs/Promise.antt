@@ -1,4 +1,4 @@
--- Demand 3, for streams, over the definitions that the contracts of `stream` cite. Proved in laws/Promise.
+-- Demand 3, for streams, over the definitions that the contracts of `stream` cite. Proved in proofs/laws/Promise.
 use Rattle.std.specs.Prelude.{true, List, [], ◌∷◌, ◌++◌, ◌≡◌, ℕ, zero, suc, ◌+◌, ◌*◌, ◌/◌, ◌%◌, ◌≤◌, ◌<◌, ltb, length, get_or, take, drop}
 use Rattle.answers.specs.declared.Maybe.TheVariants.{None, Some}
 use Rattle.answers.specs.Answers.{Answer, Meets, returned, of_told}

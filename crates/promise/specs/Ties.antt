@@ -1,5 +1,5 @@
 -- What 02, M-101 buys: a block of whose flags as many are altered as are not, over the definitions that the contracts of `stream` cite. Proved in
--- laws/Ties. Where none is missing, that is four of eight; in general f altered and g missing with 2f + g = 8 (02, M-102).
+-- proofs/laws/Ties. Where none is missing, that is four of eight; in general f altered and g missing with 2f + g = 8 (02, M-102).
 use Rattle.std.specs.Prelude.{List, [], ◌++◌, ◌≡◌, ℕ, ◌+◌, ◌*◌, ◌≤◌, ◌<◌, length, get_or, take, drop}
 use Rattle.bits.specs.Bits.{given_bits}
 use Rattle.parity.specs.Division.{control_g}

@@ -1,4 +1,4 @@
--- The chart's totals (02, M-100), over the definitions that the contracts of `stream` cite. Proved in laws/Totals.
+-- The chart's totals (02, M-100), over the definitions that the contracts of `stream` cite. Proved in proofs/laws/Totals.
 use Rattle.std.specs.Prelude.{List, map, ◌≡◌, ◌+◌, ◌*◌, ◌≤◌}
 use Rattle.answers.specs.Answers.{Answer}
 use Rattle.answers.specs.Calls.{handed_back}

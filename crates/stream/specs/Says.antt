@@ -1,5 +1,5 @@
 -- What send, end and take answer, in 01's own numbers and values, for every value of a stream: the first refusal that applies, with nothing
--- besides it and all as before; what a call that is done returns, writes and hands back. Proved in laws/Says.
+-- besides it and all as before; what a call that is done returns, writes and hands back. Proved in proofs/laws/Says.
 use Rattle.std.specs.Prelude.{true, false, List, ◌≡◌, ℕ, ◌+◌, ◌*◌, ◌≤◌, ◌<◌, length}
 use Rattle.bits.specs.Bits.{Bits, Symbols, total}
 use Rattle.answers.specs.Answers.{Answer, returned, of_told}

@@ -1,5 +1,5 @@
 -- 02, M-108: which places of a block may be missing and leave no doubt. A set of places is given by its test, so that a lost burst's places are one, and those
--- that a puncturing list names (02, M-106, M-107) are another. Proved in laws/Lost.
+-- that a puncturing list names (02, M-106, M-107) are another. Proved in proofs/laws/Lost.
 use Rattle.std.specs.Prelude.{Bool, true, false, List, [], ◌∷◌, ◌⊎◌, ◌≡◌, ℕ, ◌+◌, ◌*◌, ◌<◌, eqb, length, get_or}
 use Rattle.bits.specs.Bits.{is_missing, pick, tab}
 use Rattle.convolution.specs.Pairs.{coded}

@@ -15,7 +15,7 @@ pub record Candidate (n : ℕ) (u : List ℕ) : Type 0 where
   pub ends : drop (n - 4) u ≡ zeros 4
 
 -- The answer u, with its count: a candidate; no candidate disagrees in fewer places; of those that disagree in as many, compared from
--- the last bit back to the first, u has 0 at the first difference. At most one u and one count are that: laws/Nearest, nearest_once.
+-- the last bit back to the first, u has 0 at the first difference. At most one u and one count are that: proofs/laws/Nearest, nearest_once.
 pub record Nearest (r : List ℕ) (n : ℕ) (u : List ℕ) (count : ℕ) : Type 0 where
   pub candidate : Candidate n u
   pub counts : disagreements r (coded u) ≡ count
@@ -42,7 +42,7 @@ Fewest r t s v = Reached r t s v ⊎ ((v ≡ 65535) × ((u : List ℕ) → Ends 
 abbrev pub longest : ℕ
 longest = 228
 
--- ---- The same as functions, by the register's row and walk back; that they are what the records say is proved in laws/Nearest.
+-- ---- The same as functions, by the register's row and walk back; that they are what the records say is proved in proofs/laws/Nearest.
 -- in how many places of pair k the pair that bit b makes in state s disagrees with r
 unfoldable pub pair_cost : List ℕ → ℕ → ℕ → ℕ → ℕ
 pair_cost r k s b = differ (pair_of s b / 2) (get_or r (2 * k) 0) + differ (pair_of s b % 2) (get_or r (2 * k + 1) 0)

@@ -1,4 +1,4 @@
--- Class 1 in its new order: what the loop that lays it down holds, and what u then is.
+-- What the loop holds that lays class 1 down in its new order.
 use Rattle.std.specs.Prelude.{List, ◌≡◌, length}
 use Prim.Native.Nat.{ℕ, ◌+◌, ◌-◌, ◌*◌, ◌≤◌, ◌<◌}
 use Rattle.std.proofs.Math.ListN.{get_or}

@@ -1,5 +1,4 @@
--- The identity that a block names is the one under which its parity is good, once over the generator and the length. So the access entry accepts under it and
--- under no other, and it is the sender's where few bits are altered or missing.
+-- The bits of the block that is nearest, whatever its parity says: those that go with the identity that it names.
 use mathlib.Core.List.{List}
 use Prim.Native.Nat.{ℕ, ◌+◌, ◌-◌}
 use Rattle.std.proofs.Math.ListN.{length, take}

@@ -1,4 +1,4 @@
--- The frame by its rule, as the code has it: what is laid out and taken out is what the printed frame says, and so is what is fixed.
+-- The frame by its rule, as the code lays it out and takes it apart.
 use Rattle.std.specs.Prelude.{ltb, drop}
 use mathlib.Core.List.{List, ◌++◌}
 use Prim.Native.Nat.{ℕ, ◌+◌, ◌-◌, ◌*◌, ◌/◌, ◌%◌}

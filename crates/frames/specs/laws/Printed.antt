@@ -1,5 +1,4 @@
--- The printed frame, tested: 35 of its bits are sync and fixed bits; behind the sync pattern it is nineteen times a fixed 1 and fifteen bits, C1 to C15, D1 to D260, C16 to C21 and
--- T1 to T4 in this order; and there every Cx and every Dx is found.
+-- The place in the frame of a bit that is carried, by the rule of the code.
 use Rattle.std.specs.Prelude.{ℕ, ◌+◌, ◌*◌, ◌/◌, ◌%◌}
 
 abbrev pub carried_at : ℕ → ℕ

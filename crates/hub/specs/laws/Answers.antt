@@ -1,4 +1,4 @@
--- How each call ends: the tests on the way lead to the answer.
+-- How two calls end, as the code's own functions say it: one that is refused, and one that hears.
 use Rattle.std.specs.Prelude.{ℕ, ltb}
 use mathlib.Core.List.{List}
 use Rattle.bits.specs.Bits.{pick}

@@ -1,4 +1,4 @@
--- The vote, what coder's entries say of a block, and the rule for as many ones as zeros.
+-- What the code says of a block that was heard as one kind.
 use Rattle.std.specs.Prelude.{Bool, ℕ, take}
 use Rattle.std.proofs.Math.Bool.{true, false}
 use Rattle.bits.specs.Bits.{pick}

@@ -1,4 +1,4 @@
--- The same remainder with the bits brought down one by one: what the loop of `parity::along` holds, as a list and as a number.
+-- One more bit brought down, as the code does it with numbers.
 use Rattle.std.specs.Prelude.{ℕ, ◌+◌, ◌-◌, ◌*◌, ltb}
 use Rattle.std.specs.Int.Bits.{bit_xor}
 use Rattle.bits.specs.Bits.{pick}

@@ -1,4 +1,4 @@
--- The two tables of places, by one computed test over the entries of each; and that what is filled and gathered by them is as defined.
+-- The two tables of places as the code has them, and what is filled and gathered by them.
 use Rattle.std.specs.Prelude.{List, [], ◌∷◌, ◌++◌, ℕ, ◌+◌, ◌-◌, ◌*◌, ◌/◌, ◌%◌, eqb, get_or, set}
 use Rattle.bits.specs.Bits.{pick, tab}
 use Rattle.places.specs.Places.{e_at, flag_in, burst, four}

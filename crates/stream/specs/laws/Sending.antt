@@ -1,4 +1,4 @@
--- What holds where a send or an end is done, and how each ends.
+-- What holds where a send is done.
 use Rattle.std.specs.Prelude.{List, ◌≡◌, ℕ}
 use Rattle.std.proofs.Math.Bool.{true}
 use Rattle.std.proofs.Math.ListN.{length}

@@ -1,4 +1,4 @@
--- Table 2 is what 000 says it is: a permutation of the 260 bits, whose classes have 50, 132 and 78; and the table of the code has the same entries.
+-- The rows of table 2 as the code has them, in rows of five.
 use Rattle.std.specs.Prelude.{List, [], ◌∷◌, ℕ}
 
 -- ---- the table of the code, in rows of five

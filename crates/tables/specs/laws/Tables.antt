@@ -1,4 +1,4 @@
--- The tables are what 000 says they are: the ordering is a permutation, its classes have 50, 132 and 78 bits, and what the CRC needs is protected.
+-- The rows of the two tables as the code has them, in rows of five.
 use Rattle.std.specs.Prelude.{List, [], ◌∷◌, ℕ}
 use Rattle.order.specs.Order.{entries}
 

@@ -1,4 +1,4 @@
--- The row and the choices of the code are those of the register, and the walk back through the packed choices is the register's walk.
+-- The choices as the code remembers them, and the walk back through them.
 use Rattle.std.specs.Prelude.{◌≡◌}
 use mathlib.Core.List.{List, [], ◌∷◌}
 use Prim.Native.Nat.{ℕ, zero, suc, ◌-◌, ◌/◌, ◌%◌, ◌^◌, ◌<◌}
