@@ -1,13 +1,9 @@
 -- What the access sheet answers to a line (01, Handbook examples, the access sheet).
-use Rattle.std.specs.Prelude.{Bool, List, ◌++◌, map, ℕ, ◌+◌, ◌*◌, leb, eqb, length, get_or, take, drop}
+use Rattle.std.specs.Prelude.{Bool, List, ◌++◌, map, ℕ, ◌+◌, ◌*◌, leb, eqb, length, get_or, take, drop, Option, Some, None, Ok, Err}
 use Rattle.bits.specs.Bits.{pick, both, zeros}
 use Rattle.text.specs.Text.{bytes_of, digit_of, bit_character, refused_as}
-use Rattle.answers.specs.Answers.{number_of}
-use Rattle.answers.specs.declared.Told.{Told}
-use Rattle.answers.specs.declared.Told.TheVariants.{Done, Refused}
+use Rattle.answers.specs.Answers.{number_of, Told}
 use Rattle.coder.specs.Entries.{access_sent}
-use Rattle.access_sheet.specs.declared.sheet.Head.{Head}
-use Rattle.access_sheet.specs.declared.sheet.Head.TheVariants.{Identity, Bad}
 
 -- two decimal digits and a space
 unfoldable pub is_head : ℕ → ℕ → ℕ → Bool
@@ -18,8 +14,8 @@ unfoldable pub two_digits : ℕ → ℕ → ℕ
 two_digits tens ones = 10 * digit_of tens + digit_of ones
 
 -- what is found in the three bytes of a head
-unfoldable pub head_of : ℕ → ℕ → ℕ → Head
-head_of tens ones gap = pick (is_head tens ones gap) (Identity (two_digits tens ones)) Bad
+unfoldable pub head_of : ℕ → ℕ → ℕ → Option ℕ
+head_of tens ones gap = pick (is_head tens ones gap) (Some (two_digits tens ones)) None
 
 -- a line of 11 bytes that has the digits and the space
 unfoldable pub headed : List ℕ → Bool
@@ -30,8 +26,8 @@ identity_of line = two_digits (get_or line 0 0) (get_or line 1 0)
 
 -- the 36 bits as characters, or "refused" and the number
 unfoldable pub said_of : Told → List ℕ → List ℕ
-said_of Done bits = map bit_character bits
-said_of (Refused r) bits = refused_as (number_of r)
+said_of (Ok tt) bits = map bit_character bits
+said_of (Err r) bits = refused_as (number_of r)
 
 -- what is said of the burst with this identity that carries the eight characters: the library's answer
 unfoldable pub said : ℕ → List ℕ → List ℕ

@@ -4,7 +4,7 @@
 mod sheet;
 
 use sheet::answer;
-use text::{Span, take_line, write_line};
+use text::{take_line, write_line};
 
 fn main(rt: HostRuntime) {
     let mut chunk = [0u8; 4096];
@@ -13,21 +13,20 @@ fn main(rt: HostRuntime) {
     answer_all(&rt, &mut chunk, &mut line);
 }
 
+// The kit has this loop too, with streams that go from line to line: one loop for both, over a closure, could promise nothing of what is answered.
 // Answers each line as it comes, while the answers can be written; the turns are counted, since nothing says that the input ends.
 fn answer_all(rt: &HostRuntime, chunk: &mut [u8], line: &mut [u8]) {
     let mut input = rt.stdin();
-    let mut rest = Span { at: 0, end: 0 };
-    let mut turns = u64::MAX;
-    while turns > 0 {
+    let mut rest = 0..0;
+    for _ in 0..u64::MAX {
         let taken = take_line(rt, &mut input, chunk, rest, line);
         let kept = taken.kept;
         let more = taken.more;
-        let written = answer_line(rt, &line[0..kept], more);
+        let written = answer_line(rt, &line[..kept], more);
         if !written || !more {
             return;
         }
         rest = taken.rest;
-        turns -= 1;
     }
 }
 

@@ -3,15 +3,7 @@ ghost use Rattle.std.specs.Prelude.{◌+◌, ◌≤◌, ◌<◌, ◌≡◌, leng
 ghost use Rattle.text.specs.Text.{put_at};
 ghost use Rattle.access_sheet.specs.Sheet.{head_of, said, sheet_answer};
 
-use answers::Told;
 use text::{digit, put_bits, put_refused, put_word, read_bits};
-
-// What the first three bytes of a request say.
-#[derive(Drop)]
-enum Head {
-    Identity(u8),
-    Bad,
-}
 
 // The answer to a line, without its newline: its head again and the bits, or the refusal.
 pub fn answer(line: &[u8], out: &mut [u8]) -> usize
@@ -21,32 +13,24 @@ pub fn answer(line: &[u8], out: &mut [u8]) -> usize
     if line.len() != 11 {
         return put_word(out, 0, b"?? refused 1");
     }
-    match read_head(line[0], line[1], line[2]) {
-        Head::Bad => put_word(out, 0, b"?? refused 1"),
-        Head::Identity(identity) => {
-            let n = put_word(out, 0, &line[0..3]);
-            put_access(out, n, identity as u64, &line[3..11])
-        }
-    }
+    let Some(identity) = read_head(line[0], line[1], line[2]) else {
+        return put_word(out, 0, b"?? refused 1");
+    };
+    let n = put_word(out, 0, &line[..3]);
+    put_access(out, n, identity as u64, &line[3..])
 }
 
-// Two digits and a space; the library refuses an identity over 63.
-fn read_head(tens: u8, ones: u8, gap: u8) -> Head
+// The identity that two digits and a space say; nothing else is a head. The library refuses an identity over 63.
+#[tactic(auto, unfolding(crate::specs::Sheet::head_of, crate::specs::Sheet::is_head))]
+fn read_head(tens: u8, ones: u8, gap: u8) -> Option<u8>
     ensures { result ≡ head_of tens ones gap }
 {
     let t = digit(tens);
     let o = digit(ones);
-    if t > 9 {
-        return Head::Bad;
+    if t > 9 || o > 9 || gap != b' ' {
+        return None;
     }
-    if o > 9 {
-        return Head::Bad;
-    }
-    if gap == b' ' {
-        Head::Identity(10 * t + o)
-    } else {
-        Head::Bad
-    }
+    Some(10 * t + o)
 }
 
 // Puts the bits of the access burst that carries the eight characters, or the refusal.
@@ -58,7 +42,7 @@ fn put_access(out: &mut [u8], n: usize, identity: u64, characters: &[u8]) -> usi
     read_bits(characters, &mut d);
     let mut e = [0u8; 36];
     match coder::send_access(identity, &d, &mut e) {
-        Told::Done => put_bits(out, n, &e),
-        Told::Refused(refusal) => put_refused(out, n, answers::number(refusal)),
+        Ok(()) => put_bits(out, n, &e),
+        Err(refusal) => put_refused(out, n, u8::from(refusal)),
     }
 }

@@ -7,6 +7,8 @@ ghost use Rattle.burst.specs.Held.{held_block, held_flag_at, held_flags, saying}
 use crate::numbers::{BlockNumber, BurstNumber, first_burst};
 use crate::ring::{held_bit, in_order};
 
+// `held` is a slice whose length a clause has, here and in ring.rt: gather_flags, which docs/CONTRACTS.md names, takes it so, and in doubt the other public
+// ones are used from outside too; an array would ask more of their callers.
 // The coded bits of block n.
 pub fn gather_block(n: BlockNumber, held: &[u8], c: &mut [u8])
     requires { (length held.now ≡ 928) × (length c.old ≡ 456) }
@@ -26,6 +28,7 @@ fn flag_index(i: u32) -> usize
 }
 
 // Flag i of block n.
+#[tactic(auto, unfolding(crate::specs::Held::held_flag_at, crate::specs::Numbers::first_burst))]
 fn held_flag(n: BlockNumber, i: u32, held: &[u8]) -> u8
     requires { (i < 8) × (length held.now ≡ 928) }
     ensures { result ≡ held_flag_at held.now n.0 i }
@@ -35,10 +38,11 @@ fn held_flag(n: BlockNumber, i: u32, held: &[u8]) -> u8
 }
 
 // Does a flag say b? A missing one says neither 0 nor 1.
+#[tactic(auto, unfolding(crate::specs::Held::saying))]
 fn says(b: u8, flag: u8) -> u8
     ensures { (result ≡ saying b flag) × (result ≤ 1) }
 {
-    if flag == b { 1 } else { 0 }
+    u8::from(flag == b)
 }
 
 // Which of the eight flags of block n say b, in one byte, the first the highest.
@@ -46,11 +50,9 @@ pub fn gather_flags(b: u8, n: BlockNumber, held: &[u8]) -> u8
     requires { length held.now ≡ 928 }
     ensures { result ≡ held_flags b held.now n.0 }
 {
-    let mut flags = 0u8;
-    let mut i = 0;
-    while i < 8 {
+    let mut flags = 0;
+    for i in 0..8 {
         flags = 2 * flags + says(b, held_flag(n, i, held));
-        i += 1;
     }
     flags
 }

@@ -6,7 +6,5 @@ mod numbers;
 mod ring;
 
 pub use held::{gather_block, gather_flags};
-pub use numbers::{
-    BlockNumber, BurstNumber, Ending, block_ended, first_burst, next_block, next_burst,
-};
+pub use numbers::{BlockNumber, BurstNumber, block_ended, first_burst, next_block, next_burst};
 pub use ring::hold;

@@ -23,29 +23,20 @@ pub fn next_burst(b: BurstNumber) -> BurstNumber
 }
 
 // The first burst of block n: the one way from a block's number to a burst's.
+#[tactic(auto, unfolding(crate::specs::Numbers::first_burst))]
 pub fn first_burst(n: BlockNumber) -> BurstNumber
     ensures { result.0 ≡ first_burst n.0 }
 {
-    BurstNumber(4 * n.0 as u32)
+    BurstNumber(4 * u32::from(n.0))
 }
 
-// What a burst brings: the block that it ends, or none.
-#[derive(Drop)]
-pub enum Ending {
-    Block(BlockNumber),
-    Nothing,
-}
-
-// 01: burst 4n+7 brings the answer for block n; every other burst brings none.
-pub fn block_ended(b: BurstNumber) -> Ending
+// The block that a burst ends. 01: burst 4n+7 brings the answer for block n; every other burst brings none.
+pub fn block_ended(b: BurstNumber) -> Option<BlockNumber>
     requires { b.0 < 65536 }
     ensures { result ≡ ended b.0 }
 {
-    if b.0 < 7 {
-        return Ending::Nothing;
+    if b.0 < 7 || b.0 % 4 != 3 {
+        return None;
     }
-    if b.0 % 4 != 3 {
-        return Ending::Nothing;
-    }
-    Ending::Block(BlockNumber((b.0 / 4 - 1) as u16))
+    Some(BlockNumber((b.0 / 4 - 1) as u16))
 }

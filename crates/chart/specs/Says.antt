@@ -1,8 +1,6 @@
 -- What an answer adds to the totals (02, M-100) a second time, by what 01 returns of it: its number, its kind, its block and its count. Proved in proofs/laws/Totals.
-use Rattle.std.specs.Prelude.{List, [], ◌∷◌, ℕ, ◌+◌, eqb}
+use Rattle.std.specs.Prelude.{List, [], ◌∷◌, ℕ, ◌+◌, eqb, Option, None, Some}
 use Rattle.answers.specs.Answers.{or_none}
-use Rattle.answers.specs.declared.Maybe.{Maybe}
-use Rattle.answers.specs.declared.Maybe.TheVariants.{None, Some}
 use Rattle.bits.specs.Bits.{pick}
 use Rattle.chart.specs.Totals.{four}
 use Rattle.chart.specs.declared.Kind.{Kind}
@@ -17,7 +15,7 @@ of_good s f Facch = f
 of_good s f Neither = 0
 
 -- a block is refused where an answer that names it has the number 8 or 9
-abbrev pub of_refused : Maybe → Maybe → ℕ
+abbrev pub of_refused : Option ℕ → Option ℕ → ℕ
 of_refused (Some number) (Some n) = pick (eqb number 8) 1 (pick (eqb number 9) 1 0)
 of_refused (Some number) None = 0
 of_refused None block = 0

@@ -4,14 +4,14 @@
 mod totals;
 
 ghost use Rattle.std.specs.Prelude.{◌≡◌};
-ghost use Rattle.answers.specs.declared.Maybe.TheVariants.{None, Some};
-ghost use Rattle.chart.specs.Answers.{values, of_taken};
+ghost use Rattle.chart.specs.Answers.{of_taken};
+ghost use Rattle.chart.specs.declared.Untaken.TheVariants.{Refused};
 
-use answers::{Maybe, Refusal};
+use answers::Refusal;
 use burst::BlockNumber;
-pub use totals::{Totals, counted};
+pub use totals::Totals;
 
-// What take says of its call.
+// What a burst brings that is taken.
 #[derive(Clone, Copy)]
 pub enum Taken {
     // this burst brings no block
@@ -19,11 +19,24 @@ pub enum Taken {
     // the block's number and the count of disagreements
     Speech(BlockNumber, u16),
     Facch(BlockNumber, u16),
+}
+
+// Why a take hands over no block where there should be one.
+#[derive(Clone, Copy)]
+pub enum Untaken {
     Refused(Refusal),
     // the parity of this block is bad; with the count
     Bad(BlockNumber, u16),
     // as many of this block's flags are 1 as are 0, and its parity is bad as FACCH and as speech
     Tie(BlockNumber),
+}
+
+impl From<Refusal> for Untaken {
+    ghost from_gives = { λ why said. said ≡ Refused why };
+
+    fn from(why: Refusal) -> Untaken {
+        Untaken::Refused(why)
+    }
 }
 
 // The kind of a block, by its flags or as it is told.
@@ -37,54 +50,52 @@ pub enum Kind {
 // What is returned of a take: 01's number, the kind, the block's number and the count, where 01 says that they are returned.
 #[derive(Clone, Copy)]
 pub struct Values {
-    pub number: Maybe,
+    pub number: Option<u16>,
     pub kind: Kind,
-    pub block: Maybe,
-    pub count: Maybe,
+    pub block: Option<u16>,
+    pub count: Option<u16>,
 }
 
-// What take says, in 01's number and values.
-pub fn of_taken(taken: Taken) -> Values
-    ensures { result ≡ of_taken taken }
-{
-    match taken {
-        Taken::Waiting => Values {
-            number: Maybe::None,
-            kind: Kind::Neither,
-            block: Maybe::None,
-            count: Maybe::None,
-        },
-        Taken::Speech(n, count) => of_block(Kind::Speech, n, count),
-        Taken::Facch(n, count) => of_block(Kind::Facch, n, count),
-        Taken::Refused(why) => Values {
-            number: answers::given(why),
-            kind: Kind::Neither,
-            block: Maybe::None,
-            count: Maybe::None,
-        },
-        Taken::Bad(n, count) => Values {
-            number: answers::given(Refusal::Parity),
-            kind: Kind::Neither,
-            block: Maybe::Some(n.0),
-            count: Maybe::Some(count),
-        },
-        Taken::Tie(n) => Values {
-            number: answers::given(Refusal::Flags),
-            kind: Kind::Neither,
-            block: Maybe::Some(n.0),
-            count: Maybe::None,
-        },
-    }
-}
+// What take says, in 01's number and values. A good block has no number.
+impl From<Result<Taken, Untaken>> for Values {
+    ghost from_gives = { λ taken returned. returned ≡ of_taken taken };
 
-// A good block has no number.
-fn of_block(kind: Kind, n: BlockNumber, count: u16) -> Values
-    ensures { result ≡ values None kind (Some n.0) (Some count) }
-{
-    Values {
-        number: Maybe::None,
-        kind,
-        block: Maybe::Some(n.0),
-        count: Maybe::Some(count),
+    fn from(taken: Result<Taken, Untaken>) -> Values {
+        let nothing = Values {
+            number: None,
+            kind: Kind::Neither,
+            block: None,
+            count: None,
+        };
+        match taken {
+            Ok(Taken::Waiting) => nothing,
+            Ok(Taken::Speech(n, count)) => Values {
+                kind: Kind::Speech,
+                block: Some(n.0),
+                count: Some(count),
+                ..nothing
+            },
+            Ok(Taken::Facch(n, count)) => Values {
+                kind: Kind::Facch,
+                block: Some(n.0),
+                count: Some(count),
+                ..nothing
+            },
+            Err(Untaken::Refused(why)) => Values {
+                number: answers::given(why),
+                ..nothing
+            },
+            Err(Untaken::Bad(n, count)) => Values {
+                number: answers::given(Refusal::Parity),
+                block: Some(n.0),
+                count: Some(count),
+                ..nothing
+            },
+            Err(Untaken::Tie(n)) => Values {
+                number: answers::given(Refusal::Flags),
+                block: Some(n.0),
+                ..nothing
+            },
+        }
     }
 }

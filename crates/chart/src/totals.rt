@@ -1,10 +1,10 @@
 // The chart's totals (02, M-100): four numbers that the receiving stream carries from call to call.
-ghost use Rattle.std.specs.Prelude.{◌≡◌, ◌+◌, min};
-ghost use Rattle.chart.specs.Totals.{four, adds, highest, counted};
+ghost use Rattle.std.specs.Prelude.{◌≡◌};
+ghost use Rattle.chart.specs.Totals.{adds, counted};
 
-use crate::Taken;
+use crate::{Taken, Untaken};
 
-#[derive(Clone, Copy)]
+#[derive(Clone, Copy, Default)]
 pub struct Totals {
     // good speech blocks
     pub speech: u32,
@@ -16,47 +16,46 @@ pub struct Totals {
     pub counts: u32,
 }
 
-fn four(speech: u32, facch: u32, refused: u32, counts: u32) -> Totals
-    ensures { result ≡ four speech facch refused counts }
-{
-    Totals {
-        speech,
-        facch,
-        refused,
-        counts,
-    }
-}
-
 // What one answer adds to them.
-fn adds(told: Taken) -> Totals
+#[tactic(auto, unfolding(crate::specs::Totals::adds))]
+fn adds(told: Result<Taken, Untaken>) -> Totals
     ensures { result ≡ adds told }
 {
+    let nothing = Totals::default();
+    let refused = Totals {
+        refused: 1,
+        ..nothing
+    };
     match told {
-        Taken::Waiting => four(0, 0, 0, 0),
-        Taken::Speech(n, count) => four(1, 0, 0, count as u32),
-        Taken::Facch(n, count) => four(0, 1, 0, count as u32),
-        Taken::Refused(why) => four(0, 0, 0, 0),
-        Taken::Bad(n, count) => four(0, 0, 1, 0),
-        Taken::Tie(n) => four(0, 0, 1, 0),
+        Ok(Taken::Waiting) => nothing,
+        Ok(Taken::Speech(_, count)) => Totals {
+            speech: 1,
+            counts: u32::from(count),
+            ..nothing
+        },
+        Ok(Taken::Facch(_, count)) => Totals {
+            facch: 1,
+            counts: u32::from(count),
+            ..nothing
+        },
+        Err(Untaken::Refused(_)) => nothing,
+        Err(Untaken::Bad(_, _)) => refused,
+        Err(Untaken::Tie(_)) => refused,
     }
 }
 
-// A number that would pass the highest stays there.
-fn plus(a: u32, b: u32) -> u32
-    ensures { result ≡ min (a + b) highest }
-{
-    if b > u32::MAX - a { u32::MAX } else { a + b }
-}
-
-// The totals after one answer more.
-pub fn counted(totals: Totals, told: Taken) -> Totals
-    ensures { result ≡ counted totals told }
-{
-    let more = adds(told);
-    four(
-        plus(totals.speech, more.speech),
-        plus(totals.facch, more.facch),
-        plus(totals.refused, more.refused),
-        plus(totals.counts, more.counts),
-    )
+impl Totals {
+    // The totals after one answer more. A number that would pass the highest stays there.
+    #[tactic(auto, unfolding(crate::specs::Totals::more, crate::specs::Totals::counted))]
+    pub fn counted(self, told: Result<Taken, Untaken>) -> Totals
+        ensures { result ≡ counted self told }
+    {
+        let more = adds(told);
+        Totals {
+            speech: self.speech.saturating_add(more.speech),
+            facch: self.facch.saturating_add(more.facch),
+            refused: self.refused.saturating_add(more.refused),
+            counts: self.counts.saturating_add(more.counts),
+        }
+    }
 }

@@ -10,14 +10,14 @@ unfoldable pub speech_p : List ℕ → List ℕ
 speech_p d = parity speech_g (take 50 d)
 
 -- 000, 3.1.2.1 b): u(k) = d(2k) and u(184-k) = d(2k+1) for k = 0..90, u(91+k) = p(k) for k = 0..2, u(185)..u(188) = 0
-unfoldable pub speech_uat : List ℕ → List ℕ → ℕ → ℕ
-speech_uat d p k =
+unfoldable pub speech_u_at : List ℕ → List ℕ → ℕ → ℕ
+speech_u_at d p k =
     pick (ltb k 91) (get_or d (2 * k) 0)
     (pick (ltb k 94) (get_or p (k - 91) 0)
     (pick (ltb k 185) (get_or d (2 * (184 - k) + 1) 0) 0))
 
 unfoldable pub speech_u : List ℕ → List ℕ
-speech_u d = tab 189 (speech_uat d (speech_p d))
+speech_u d = tab 189 (speech_u_at d (speech_p d))
 
 -- 000, 3.1.2.2: the 378 bits of the pairs, then c(378+k) = d(182+k) for k = 0..77
 unfoldable pub speech_block : List ℕ → List ℕ

@@ -1,19 +1,17 @@
 -- The whole answer of each entry (01, The bench and its edges), of what it reads and of what its lent buffer held before.
-use Rattle.std.specs.Prelude.{Bool, true, false, List, ◌≡◌, ℕ, ◌*◌, ◌/◌, ◌%◌, eqb, leb, length}
+use Rattle.std.specs.Prelude.{Bool, true, false, List, ◌≡◌, ℕ, ◌*◌, ◌/◌, ◌%◌, eqb, leb, length, Ok, Err}
 use Rattle.bits.specs.Bits.{NoneOver, both, none_over, tab}
 use Rattle.trellis.specs.Nearest.{row}
-use Rattle.answers.specs.Answers.{Answer, tells}
+use Rattle.answers.specs.Answers.{Answer, tells, Told}
 use Rattle.answers.specs.declared.Refusal.TheVariants.{Length, NotBits, Identity}
-use Rattle.answers.specs.declared.Told.{Told}
-use Rattle.answers.specs.declared.Told.TheVariants.{Done, Refused}
 use Rattle.coder.specs.Blocks.{speech_block, control_block, sacch_message, access_burst, sch_burst}
 
 -- 01: where several apply, 1, 2, 3. Are the lengths right, is no byte over what it may be, is the identity at most 63?
 unfoldable pub judged : Bool → Bool → Bool → Told
-judged false bits identity = Refused Length
-judged true false identity = Refused NotBits
-judged true true false = Refused Identity
-judged true true true = Done
+judged false bits identity = Err Length
+judged true false identity = Err NotBits
+judged true true false = Err Identity
+judged true true true = Ok tt
 
 -- both lent buffers have the lengths of 01's table
 abbrev pub lengths : List ℕ → ℕ → List ℕ → ℕ → Bool

@@ -8,7 +8,7 @@ use Rattle.trellis.specs.Nearest.{pair_cost, row_at, row}
 use Rattle.places.specs.Places.{place_of, e_of, e_at}
 use Rattle.answers.specs.Answers.{sent_or, tells}
 use Rattle.coder.specs.Entries.{judged, unreached, trellis_viewed}
-use Rattle.coder.specs.Blocks.{speech_p, speech_uat, speech_u, speech_block, colour, access_u, access_burst}
+use Rattle.coder.specs.Blocks.{speech_p, speech_u_at, speech_u, speech_block, colour, access_u, access_burst}
 
 abbrev pub same : List ℕ → List ℕ → Bool
 same [] [] = true
@@ -60,5 +60,5 @@ all_hold [] = true
 all_hold (x ∷ xs) = both (same x.computed x.said) (all_hold xs)
 
 pub examples : all_hold table ≡ true
-unfolding all_hold table tab tab_from add zeros ones digits occurs product lower divide remainder parity speech_g access_g back first second coded_at coded place_of e_of e_at speech_p speech_uat speech_u speech_block colour access_u access_burst from bit way best pair_of differ pair_cost row_at row judged tells sent_or none_over largest is_missing unreached trellis_viewed
+unfolding all_hold table tab tab_from add zeros ones digits occurs product lower divide remainder parity speech_g access_g back first second coded_at coded place_of e_of e_at speech_p speech_u_at speech_u speech_block colour access_u access_burst from bit way best pair_of differ pair_cost row_at row judged tells sent_or none_over largest is_missing unreached trellis_viewed
 examples = refl

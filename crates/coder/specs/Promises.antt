@@ -1,12 +1,9 @@
 -- What is promised of sending and receiving together, over the definitions that the entries' contracts cite. Proved in proofs/laws/Promises.
-use Rattle.std.specs.Prelude.{List, ◌++◌, ◌≡◌, ℕ, ◌+◌, ◌*◌, ◌≤◌, take, drop}
-use Rattle.answers.specs.declared.Maybe.TheVariants.{None}
+use Rattle.std.specs.Prelude.{List, ◌++◌, ◌≡◌, ℕ, ◌+◌, ◌*◌, ◌≤◌, take, drop, None}
 use Rattle.bits.specs.Bits.{given_bits, missing}
 use Rattle.trellis.specs.Nearest.{disagreements}
 use Rattle.places.specs.Places.{gathered}
-use Rattle.answers.specs.Answers.{Answer, returned, of_told}
-use Rattle.answers.specs.declared.Heard.{Heard}
-use Rattle.answers.specs.declared.Told.{Told}
+use Rattle.answers.specs.Answers.{Answer, returned, of_told, Told, Heard}
 use Rattle.coder.specs.Entries.{Given, speech_sent, control_sent, sacch_sent, access_sent, sch_sent}
 use Rattle.coder.specs.Says.{Accepts, FindsBad}
 use Rattle.coder.specs.Received.{speech_received, control_received, sacch_received, access_received, sch_received}

@@ -1,15 +1,12 @@
 -- What is received: the nearest block to the protected bits, the verdict of the parity bits within it, the bits to hand over.
-use Rattle.std.specs.Prelude.{Bool, List, ◌++◌, ℕ, ◌+◌, ◌-◌, ◌/◌, ◌%◌, eqb, leb, length, get_or, take, drop}
+use Rattle.std.specs.Prelude.{Bool, List, ◌++◌, ℕ, ◌+◌, ◌-◌, ◌/◌, ◌%◌, eqb, leb, length, get_or, take, drop, Ok, Err}
 use Rattle.bits.specs.Bits.{pick, tab, add, ones, digits, value, given_bits, none_over}
 use Rattle.parity.specs.Division.{remainder, speech_g, control_g, access_g, sch_g}
 use Rattle.trellis.specs.Nearest.{nearest, nearest_count}
 use Rattle.places.specs.Places.{gathered}
-use Rattle.answers.specs.Answers.{Answer, hears}
-use Rattle.answers.specs.declared.Heard.{Heard}
-use Rattle.answers.specs.declared.Heard.TheVariants as heard
-use Rattle.answers.specs.declared.Told.{Told}
-use Rattle.answers.specs.declared.Told.TheVariants as told
+use Rattle.answers.specs.Answers.{Answer, hears, Told, Heard}
 use Rattle.coder.specs.Entries.{judged, lengths}
+use Rattle.answers.specs.declared.Unheard.TheVariants as unheard
 
 -- is what division of w by g leaves all ones? (01, Coding rules)
 unfoldable pub all_ones : List ℕ → List ℕ → Bool
@@ -29,28 +26,28 @@ block_heard g colour n c =
     record { bits = take n u; good = all_ones g (take n u ++ add (take (length g) (drop n u)) (digits (length g) colour)); count = nearest_count c (n + length g + 4) }
 
 -- speech: d(2k) = u(k) and d(2k+1) = u(184-k) for k = 0..90, as 000, 3.1.2.1 b) has it the other way
-unfoldable pub speech_dat : List ℕ → ℕ → ℕ
-speech_dat u j = pick (eqb (j % 2) 0) (get_or u (j / 2) 0) (get_or u (184 - j / 2) 0)
+unfoldable pub speech_d_at : List ℕ → ℕ → ℕ
+speech_d_at u j = pick (eqb (j % 2) 0) (get_or u (j / 2) 0) (get_or u (184 - j / 2) 0)
 
 -- the protected bits are the first 378; the parity bits stand at u(91) to u(93), over the first 50 bits; the last 78 are as received, and by 02, M-102
 -- missing ones are given as 0
 unfoldable pub speech_heard : List ℕ → Hearing
 speech_heard c =
     let u : List ℕ = nearest (take 378 c) 189 in
-    let d : List ℕ = tab 182 (speech_dat u) in
+    let d : List ℕ = tab 182 (speech_d_at u) in
     record { bits = d ++ given_bits (drop 378 c); good = all_ones speech_g (take 50 d ++ take 3 (drop 91 u)); count = nearest_count (take 378 c) 189 }
 
 -- ---- what is told of it
 unfoldable pub verdict : Hearing → Heard
-verdict h = pick h.good (heard.Good h.count) (heard.Bad h.count)
+verdict h = pick h.good (Ok h.count) (Err (unheard.Bad h.count))
 
 -- good: the bits are handed over; else the buffer stands as before
 unfoldable pub hands : Hearing → List ℕ → Answer Heard
 hands h d = hears (verdict h) h.bits d
 
 unfoldable pub judged_hearing : Told → Hearing → Heard
-judged_hearing told.Done h = verdict h
-judged_hearing (told.Refused r) h = heard.Refused r
+judged_hearing (Ok tt) h = verdict h
+judged_hearing (Err r) h = Err (unheard.Refused r)
 
 -- an entry that reads n bytes c, none over 2 (02, M-102), and an identity, and hands over m bits into a buffer that held d
 unfoldable pub reception : ℕ → ℕ → ℕ → List ℕ → Hearing → List ℕ → Answer Heard

@@ -1,18 +1,15 @@
 -- What each entry answers, in 01's own numbers and words: the first refusal that applies; what is sent; THE nearest block of what is
 -- received, its count and its verdict. Proved of every entry in proofs/laws/Says.
-use Rattle.std.specs.Prelude.{List, ◌++◌, ◌≡◌, ℕ, ◌/◌, ◌%◌, ◌≤◌, ◌<◌, length, get_or, take, drop}
+use Rattle.std.specs.Prelude.{List, ◌++◌, ◌≡◌, ℕ, ◌/◌, ◌%◌, ◌≤◌, ◌<◌, length, get_or, take, drop, None, Some}
 use Rattle.bits.specs.Bits.{NoneOver, Symbols, given_bits, tab, add, ones, digits}
 use Rattle.parity.specs.Division.{remainder, speech_g, control_g, access_g, sch_g}
 use Rattle.trellis.specs.Nearest.{Nearest, Fewest}
 use Rattle.places.specs.Places.{gathered}
-use Rattle.answers.specs.Answers.{Answer, Returns, Refuses, returned, of_told, of_heard}
-use Rattle.answers.specs.declared.Heard.{Heard}
-use Rattle.answers.specs.declared.Maybe.TheVariants.{None, Some}
+use Rattle.answers.specs.Answers.{Answer, Returns, Refuses, returned, of_told, of_heard, Told, Heard}
 use Rattle.answers.specs.declared.Returned.{Returned}
-use Rattle.answers.specs.declared.Told.{Told}
 use Rattle.coder.specs.Blocks.{speech_block, control_block, sacch_message, access_burst, sch_burst}
 use Rattle.coder.specs.Entries.{Given, speech_sent, control_sent, sacch_sent, access_sent, sch_sent, trellis_viewed}
-use Rattle.coder.specs.Received.{speech_dat, speech_received, control_received, sacch_received, access_received, sch_received}
+use Rattle.coder.specs.Received.{speech_d_at, speech_received, control_received, sacch_received, access_received, sch_received}
 
 -- 01, Numbers given for a no: an entry that reads n bytes d, none of which may be over `most`, and the identity i, and is lent m bytes that held `before`,
 -- answers a. Where several apply: 1, 2, 3
@@ -69,7 +66,7 @@ BlockDecodes g i n pairs c = Decodes c pairs g (block_word g i n) (take n)
 -- speech: d(0) to d(181) out of u; the first 50 and the parity bits at u(91) are divided; the last 78 are handed over as received,
 -- missing ones as 0 (02, M-102)
 abbrev pub speech_d : List ℕ → List ℕ
-speech_d u = tab 182 (speech_dat u)
+speech_d u = tab 182 (speech_d_at u)
 
 abbrev pub speech_word : List ℕ → List ℕ
 speech_word u = take 50 (speech_d u) ++ take 3 (drop 91 u)

@@ -1,20 +1,16 @@
 -- 02, M-105: for which identity an access burst was, its whole answer, what it says in 01's numbers, and why the reason is true. Proved in proofs/laws/Whose.
-use Rattle.std.specs.Prelude.{true, List, ◌≡◌, ℕ, ◌+◌, ◌*◌, ◌≤◌, eqb, length, take, drop}
+use Rattle.std.specs.Prelude.{true, List, ◌≡◌, ℕ, ◌+◌, ◌*◌, ◌≤◌, eqb, length, take, drop, Option, None, Some, Result, Ok, Err}
 use Rattle.bits.specs.Bits.{Symbols, none_over, missing, add, digits, value}
 use Rattle.parity.specs.Division.{parity, access_g}
 use Rattle.trellis.specs.Nearest.{Nearest, nearest, nearest_count}
-use Rattle.answers.specs.Answers.{Answer, number_of, returned}
-use Rattle.answers.specs.declared.Maybe.{Maybe}
-use Rattle.answers.specs.declared.Maybe.TheVariants.{None, Some}
+use Rattle.answers.specs.Answers.{Answer, number_of, returned, Told}
+use Rattle.answers.specs.declared.Refusal.{Refusal}
 use Rattle.answers.specs.declared.Returned.{Returned}
-use Rattle.answers.specs.declared.Told.{Told}
-use Rattle.answers.specs.declared.Told.TheVariants as told
 use Rattle.coder.specs.Entries.{Given, judged, lengths, access_sent}
 use Rattle.coder.specs.Received.{access_received}
 use Rattle.coder.specs.Says.{Accepts, FindsBad}
 use Rattle.coder.specs.Promises.{altered, whole}
-use Rattle.coder.specs.declared.Whose.{Whose}
-use Rattle.coder.specs.declared.Whose.TheVariants.{Named, Refused}
+use Rattle.coder.specs.declared.Named.{Named}
 
 -- what a block names, and in how many places it disagrees with what was received
 pub record Naming : Type 0 where
@@ -28,9 +24,16 @@ block_named g n c =
     let u : List ℕ = nearest c (n + length g + 4) in
     record { identity = value (add (take (length g) (drop n u)) (parity g (take n u))); count = nearest_count c (n + length g + 4) }
 
+-- what is said of it: the identity and the count, or why there are none
+abbrev pub Whose : Type 0
+Whose = Result Named Refusal
+
+abbrev pub named : ℕ → ℕ → Named
+named identity count = record { identity = identity; count = count }
+
 unfoldable pub naming : Told → Naming → Whose
-naming told.Done x = Named x.identity x.count
-naming (told.Refused r) x = Refused r
+naming (Ok tt) x = Ok (named x.identity x.count)
+naming (Err r) x = Err r
 
 -- an access burst: 36 bytes, none over 2; no identity is read and nothing is written
 unfoldable pub access_whose : List ℕ → Whose
@@ -46,14 +49,14 @@ any_access_received e d = record {
 
 -- ---- in 01's numbers: the refusal and nothing besides, or the identity and the count
 abbrev pub of_whose : Whose → Returned
-of_whose (Named i k) = returned None (Some k)
-of_whose (Refused r) = returned (Some (number_of r)) None
+of_whose (Ok x) = returned None (Some x.count)
+of_whose (Err r) = returned (Some (number_of r)) None
 
-abbrev pub identity_of : Whose → Maybe
-identity_of (Named i k) = Some i
-identity_of (Refused r) = None
+abbrev pub identity_of : Whose → Option ℕ
+identity_of (Ok x) = Some x.identity
+identity_of (Err r) = None
 
-abbrev pub Tells : Whose → Maybe → Maybe → Maybe → Type 0
+abbrev pub Tells : Whose → Option ℕ → Option ℕ → Option ℕ → Type 0
 Tells w number identity count = (of_whose w ≡ returned number count) × (identity_of w ≡ identity)
 
 abbrev pub Names : List ℕ → ℕ → ℕ → Type 0
@@ -95,7 +98,7 @@ abbrev pub WhoAcceptsIsNamed : Type 0
 WhoAcceptsIsNamed = (i : ℕ) (e out : List ℕ) (count : ℕ) (bits : List ℕ) → Accepts (access_received i e out) count bits → Names e i count
 
 -- ---- 02, M-112: the identity, the count and the bits of one decoding
-abbrev pub Hands : Answer Whose → Maybe → Maybe → Maybe → List ℕ → Type 0
+abbrev pub Hands : Answer Whose → Option ℕ → Option ℕ → Option ℕ → List ℕ → Type 0
 Hands a number identity count left = Tells a.result number identity count × (a.left ≡ left)
 
 -- whatever 36 bytes are received, and whatever the eight lent ones held: one identity is named, the bits are handed over that the access entry hands over under

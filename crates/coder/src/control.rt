@@ -7,7 +7,7 @@ ghost use Rattle.coder.specs.Blocks.{control_u, control_block};
 ghost use Rattle.coder.specs.Entries.{Given};
 ghost use Rattle.coder.specs.Received.{block_heard, hands};
 
-use answers::Heard;
+use answers::Unheard;
 use trellis::LONGEST;
 
 // d, its parity bits, and four zeros.
@@ -15,14 +15,14 @@ fn lay_out(d: &[u8], u: &mut [u8])
     requires { (Bits d.now) × (length d.now ≡ 184) × (length u.old ≡ 228) }
     ensures { u.new ≡ control_u d.now }
 {
-    bits::copy(d, &mut u[0..184]);
+    u[0..184].copy_from_slice(d);
     drawing::put_control(d, &mut u[184..224]);
-    bits::fill(0, &mut u[224..228]);
+    u[224..228].fill(0);
 }
 
 // The pairs of that u.
 pub(crate) fn code(d: &[u8], c: &mut [u8])
-    requires { (Bits d.now) × (length d.now ≡ 184) × (length c.old ≡ 456) }
+    requires { Given 1 184 456 d.now c.old }
     ensures { c.new ≡ control_block d.now }
 {
     let mut u = [0u8; 228];
@@ -31,15 +31,15 @@ pub(crate) fn code(d: &[u8], c: &mut [u8])
 }
 
 // The nearest block to c: its 184 bits are handed over where the forty after them are their parity bits.
-pub(crate) fn receive(c: &[u8], d: &mut [u8]) -> Heard
+pub(crate) fn receive(c: &[u8], d: &mut [u8]) -> Result<u16, Unheard>
     requires { Given 2 456 184 c.now d.old }
     ensures { Meets (hands (block_heard control_g 0 184 c.now) d.old) result d.new }
 {
     let mut u = [0u8; LONGEST];
     let count = trellis::nearest(c, 228, &mut u);
     if drawing::is_control(&u[0..224]) {
-        bits::copy(&u[0..184], d);
-        return Heard::Good(count);
+        d.copy_from_slice(&u[0..184]);
+        return Ok(count);
     }
-    Heard::Bad(count)
+    Err(Unheard::Bad(count))
 }

@@ -33,7 +33,9 @@ pub fn pair(s: usize, b: usize) -> u8
     PAIRS[s][b]
 }
 
+// The next three ask what `code` knows, which is public (docs/CONTRACTS.md) and takes a slice: a type of bits would be made for three formulas alone.
 // u(k-j), where u(k) = 0 for k < 0
+#[tactic(auto, unfolding(crate::specs::Pairs::back))]
 fn back(u: &[u8], k: usize, j: usize) -> u8
     requires { k < length u.now }
     ensures { result ≡ back u.now k j }
@@ -62,11 +64,10 @@ pub fn code(u: &[u8], c: &mut [u8])
     requires { (Bits u.now) × (length c.old ≡ 2 * length u.now) }
     ensures { c.new ≡ coded u.now }
 {
-    let mut k = 0;
-    while k < u.len() {
+    // k is computed with: pair k is made of u(k) and the places before it
+    for k in 0..u.len() {
         let x = first(u, k);
         c[2 * k] = x;
         c[2 * k + 1] = second(u, k, x);
-        k += 1;
     }
 }

@@ -2,8 +2,7 @@
 use Rattle.std.specs.Prelude.{ℕ, ◌+◌, ◌*◌}
 use Rattle.answers.specs.Answers.{Answer, or_none}
 use Rattle.answers.specs.declared.Returned.{Returned}
-use Rattle.coder.specs.Whose.{of_whose, identity_of}
-use Rattle.coder.specs.declared.Whose.{Whose}
+use Rattle.coder.specs.Whose.{Whose, of_whose, identity_of}
 
 -- 01's number in the upper half of 32 bits, the count in the lower
 unfoldable pub one_number : Returned → ℕ

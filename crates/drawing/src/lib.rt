@@ -59,16 +59,14 @@ fn clock(cells: [u8; 40], bit: u8) -> [u8; 40]
 }
 
 // The cells after eight clocks: the bits of one octet enter, one at a time.
-fn clock_octet(cells: [u8; 40], octet: &[u8]) -> [u8; 40]
-    requires { (Bits cells) × (Bits octet.now) × (length octet.now ≡ 8) }
+fn clock_octet(cells: [u8; 40], octet: &[u8; 8]) -> [u8; 40]
+    requires { (Bits cells) × (Bits octet.now) }
     ensures { result ≡ clocked_in control_taps cells octet.now }
 {
     let mut held = cells;
-    let mut i = 0;
-    while i < 8 {
-        let next = clock(held, octet[i]);
+    for bit in octet {
+        let next = clock(held, *bit);
         held = next;
-        i += 1;
     }
     held
 }
@@ -78,12 +76,11 @@ fn clock_block(d: &[u8]) -> [u8; 40]
     requires { (Bits d.now) × (length d.now ≡ 184) }
     ensures { result ≡ clocked_in control_taps (zeros 40) d.now }
 {
+    let (octets, _) = d.as_chunks::<8>();
     let mut cells = [0u8; 40];
-    let mut i = 0;
-    while i < 23 {
-        let next = clock_octet(cells, &d[8 * i..8 * i + 8]);
+    for octet in octets {
+        let next = clock_octet(cells, octet);
         cells = next;
-        i += 1;
     }
     cells
 }
@@ -101,10 +98,8 @@ fn read_off(cells: [u8; 40], p: &mut [u8])
     requires { (Bits cells) × (length p.old ≡ 40) }
     ensures { p.new ≡ read_off cells }
 {
-    let mut k = 0;
-    while k < 40 {
+    for k in 0..40 {
         p[k] = complement(cells[39 - k]);
-        k += 1;
     }
 }
 
@@ -117,28 +112,6 @@ pub fn put_control(d: &[u8], p: &mut [u8])
     read_off(cells, p);
 }
 
-// Was all alike so far, and are these two?
-fn still_alike(alike: bool, a: u8, b: u8) -> bool
-    ensures { result ≡ both (eqb a b) alike }
-{
-    if a == b { alike } else { false }
-}
-
-// Are the two the same forty bits?
-fn same(v: &[u8], w: &[u8]) -> bool
-    requires { length v.now ≡ length w.now }
-    ensures { (result ≡ true → v.now ≡ w.now) × (v.now ≡ w.now → result ≡ true) }
-{
-    let mut alike = true;
-    let mut k = 0;
-    while k < v.len() {
-        let next = still_alike(alike, v[k], w[k]);
-        alike = next;
-        k += 1;
-    }
-    alike
-}
-
 // Are the last forty bits of w the parity bits of the 184 before them? They are worked out again, and compared.
 pub fn is_control(w: &[u8]) -> bool
     requires { (Bits w.now) × (length w.now ≡ 224) }
@@ -146,5 +119,5 @@ pub fn is_control(w: &[u8]) -> bool
 {
     let mut again = [0u8; 40];
     put_control(&w[0..184], &mut again);
-    same(&again, &w[184..224])
+    again.as_slice() == &w[184..224]
 }

@@ -1,17 +1,14 @@
 -- 02, M-103: the whole answer of the two entries, of what they read and of what the lent buffer held before.
-use Rattle.std.specs.Prelude.{List, ℕ, leb}
-use Rattle.answers.specs.Answers.{Answer}
-use Rattle.answers.specs.declared.Heard.{Heard}
-use Rattle.answers.specs.declared.Heard.TheVariants as heard
-use Rattle.answers.specs.declared.Told.{Told}
+use Rattle.std.specs.Prelude.{List, ℕ, leb, Ok, Err}
+use Rattle.answers.specs.Answers.{Answer, Told, Heard}
 use Rattle.bits.specs.Bits.{pick, none_over}
 use Rattle.coder.specs.Blocks.{speech_block}
 use Rattle.coder.specs.Entries.{judged, lengths, entry}
 use Rattle.coder.specs.Received.{judged_hearing, speech_heard}
-use Rattle.efr.specs.Answers.{checks}
+use Rattle.efr.specs.Answers.{Checked, checks}
 use Rattle.preliminary.specs.Stage.{efr_d, w_of, s_of, crc_good}
-use Rattle.efr.specs.declared.Checked.{Checked}
-use Rattle.efr.specs.declared.Checked.TheVariants.{Good, Refused, BadParity, BadCrc}
+use Rattle.efr.specs.declared.Unchecked.TheVariants.{Refused, BadParity, BadCrc}
+use Rattle.answers.specs.declared.Unheard.TheVariants as unheard
 
 -- the preliminary stage, then the same coder
 unfoldable pub efr_block : List ℕ → List ℕ
@@ -23,9 +20,9 @@ efr_sent s c = entry 244 456 0 s (efr_block s) c
 
 -- what is said of the speech block d, once the CRC within it is judged too: where the three-bit parity is bad, the CRC is not asked
 unfoldable pub with_crc : Heard → List ℕ → Checked
-with_crc (heard.Good k) d = pick (crc_good (w_of d)) (Good k) (BadCrc k)
-with_crc (heard.Refused r) d = Refused r
-with_crc (heard.Bad k) d = BadParity k
+with_crc (Ok k) d = pick (crc_good (w_of d)) (Ok k) (Err (BadCrc k))
+with_crc (Err (unheard.Refused r)) d = Err (Refused r)
+with_crc (Err (unheard.Bad k)) d = Err (BadParity k)
 
 -- 456, none over 2, to 244
 unfoldable pub efr_received : List ℕ → List ℕ → Answer Checked

@@ -6,7 +6,7 @@ use Rattle.parity.specs.Division.{occurs, product, lower, divide, remainder, par
 use Rattle.convolution.specs.Pairs.{back, first, second, coded_at, coded}
 use Rattle.order.specs.Order.{fetched}
 use Rattle.answers.specs.Answers.{sent_or, tells}
-use Rattle.coder.specs.Blocks.{speech_p, speech_uat, speech_u, speech_block}
+use Rattle.coder.specs.Blocks.{speech_p, speech_u_at, speech_u, speech_block}
 use Rattle.coder.specs.Entries.{judged, entry}
 use Rattle.coder.specs.Examples.{ones_from, Example, is, all_hold}
 use Rattle.efr.specs.Entries.{efr_block, efr_sent, efr_received}
@@ -28,7 +28,7 @@ table =
     ∷ []
 
 pub examples : all_hold table ≡ true
-unfolding all_hold table tab tab_from largest none_over add zeros ones occurs product lower divide remainder parity crc speech_g efr_g back first second coded_at coded fetched sent_or tells speech_p speech_uat speech_u speech_block judged entry efr_block efr_sent crc_p w_at efr_w efr_d important class1a class1b class2 spread ordering
+unfolding all_hold table tab tab_from largest none_over add zeros ones occurs product lower divide remainder parity crc speech_g efr_g back first second coded_at coded fetched sent_or tells speech_p speech_u_at speech_u speech_block judged entry efr_block efr_sent crc_p w_at efr_w efr_d important class1a class1b class2 spread ordering
 examples = refl
 
 -- ---- a speech block whose d(50), which is s(1), is 1, and all else 0, the CRC's eight bits too: its three-bit parity is good, as that of every speech block

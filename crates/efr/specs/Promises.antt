@@ -1,9 +1,8 @@
 -- 02, M-103: what is promised of sending and receiving together. Proved in proofs/laws/Promises.
-use Rattle.std.specs.Prelude.{false, List, ◌≡◌, ℕ, suc, ◌+◌, ◌-◌, ◌*◌, ◌≤◌, get_or, take}
+use Rattle.std.specs.Prelude.{false, List, ◌≡◌, ℕ, suc, ◌+◌, ◌-◌, ◌*◌, ◌≤◌, get_or, take, None}
 use Rattle.bits.specs.Bits.{pick, tab, given_as, missing}
 use Rattle.order.specs.Order.{from1, place_in}
 use Rattle.answers.specs.Answers.{returned, of_told}
-use Rattle.answers.specs.declared.Maybe.TheVariants.{None}
 use Rattle.coder.specs.Entries.{Given}
 use Rattle.coder.specs.Promises.{altered, whole}
 use Rattle.efr.specs.Entries.{efr_sent, efr_received}

@@ -1,16 +1,14 @@
 -- What the two entries answer, in 01's own numbers and words. Proved in proofs/laws/Says.
-use Rattle.std.specs.Prelude.{List, ◌++◌, ◌≡◌, ℕ, length, take, drop}
+use Rattle.std.specs.Prelude.{List, ◌++◌, ◌≡◌, ℕ, length, take, drop, None, Some}
 use Rattle.bits.specs.Bits.{given_bits, ones, zeros}
 use Rattle.parity.specs.Division.{remainder, speech_g, efr_g}
 use Rattle.trellis.specs.Nearest.{Nearest}
 use Rattle.answers.specs.Answers.{Answer, Returns}
-use Rattle.answers.specs.declared.Maybe.TheVariants.{None, Some}
 use Rattle.coder.specs.Entries.{Given}
 use Rattle.coder.specs.Says.{Refusing, Sends, speech_d, speech_word, SpeechDecodes}
-use Rattle.efr.specs.Answers.{of_checked}
+use Rattle.efr.specs.Answers.{Checked, of_checked}
 use Rattle.efr.specs.Entries.{efr_block, efr_sent, efr_received}
 use Rattle.preliminary.specs.Stage.{w_of, s_of, crc_word}
-use Rattle.efr.specs.declared.Checked.{Checked}
 
 -- ---- sending: refused with 1 or 2, or else done, with the block in the buffer
 abbrev pub EfrSends : Type 0

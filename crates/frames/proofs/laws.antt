@@ -1,3 +1,4 @@
+pub mod Parts
 pub mod Octets
 pub mod Printed
 pub mod Layout

@@ -1,10 +1,8 @@
 -- 02, M-113: the whole answer of the two entries, of what they read and of what the lent buffers held before.
-use Rattle.std.specs.Prelude.{Bool, true, false, List, ◌≡◌, ℕ, eqb, length}
+use Rattle.std.specs.Prelude.{Bool, true, false, List, ◌≡◌, ℕ, eqb, length, Ok, Err}
 use Rattle.bits.specs.Bits.{both, none_over}
-use Rattle.answers.specs.Answers.{Answer, sent_or, tells}
+use Rattle.answers.specs.Answers.{Answer, sent_or, tells, Told}
 use Rattle.answers.specs.declared.Refusal.TheVariants.{Length, NotBits, FixedBit, FrameType}
-use Rattle.answers.specs.declared.Told.{Told}
-use Rattle.answers.specs.declared.Told.TheVariants.{Done, Refused}
 use Rattle.frames.specs.Frame.{frame, control_of, speech_of, fixed_right, is_speech}
 use Rattle.frames.specs.Octets.{unpacked}
 
@@ -14,20 +12,20 @@ sized c d x = both (eqb (length c) 21) (both (eqb (length d) 260) (eqb (length x
 
 -- ---- writing. Where several apply: 1, 2, 19. Are the lengths right, is every byte a bit, are C1 to C5 a full rate speech type?
 unfoldable pub write_judged : Bool → Bool → Bool → Told
-write_judged false bits speech = Refused Length
-write_judged true false speech = Refused NotBits
-write_judged true true false = Refused FrameType
-write_judged true true true = Done
+write_judged false bits speech = Err Length
+write_judged true false speech = Err NotBits
+write_judged true true false = Err FrameType
+write_judged true true true = Ok tt
 
 unfoldable pub frame_written : List ℕ → List ℕ → List ℕ → Answer Told
 frame_written c d x = tells (write_judged (sized c d x) (both (none_over 1 c) (none_over 1 d)) (is_speech c)) (frame c d) x
 
 -- ---- reading. Where several apply: 1, 18, 19. Are the lengths right, are the sync and the fixed bits, are C1 to C5 a full rate speech type?
 unfoldable pub read_judged : Bool → Bool → Bool → Told
-read_judged false fixed speech = Refused Length
-read_judged true false speech = Refused FixedBit
-read_judged true true false = Refused FrameType
-read_judged true true true = Done
+read_judged false fixed speech = Err Length
+read_judged true false speech = Err FixedBit
+read_judged true true false = Err FrameType
+read_judged true true true = Ok tt
 
 -- the result of reading, and what each of the two lent buffers then holds
 pub record FrameAnswer : Type 0 where

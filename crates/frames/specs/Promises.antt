@@ -1,9 +1,7 @@
 -- 02, M-113: what is promised of writing and reading together. Proved in proofs/laws/Promises.
-use Rattle.std.specs.Prelude.{List, ◌≡◌, ℕ, ◌<◌, length}
+use Rattle.std.specs.Prelude.{List, ◌≡◌, ℕ, ◌<◌, length, None}
 use Rattle.bits.specs.Bits.{NoneOver}
-use Rattle.answers.specs.Answers.{Answer, of_told, returned}
-use Rattle.answers.specs.declared.Maybe.TheVariants.{None}
-use Rattle.answers.specs.declared.Told.{Told}
+use Rattle.answers.specs.Answers.{Answer, of_told, returned, Told}
 use Rattle.frames.specs.Answers.{frame_written, frame_read}
 use Rattle.frames.specs.Frame.{T, stands_in}
 use Rattle.frames.specs.Says.{bit_in, Writable, FrameReturns}

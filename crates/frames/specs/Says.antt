@@ -1,12 +1,10 @@
 -- What writing and reading a frame answer, in 02's numbers and 001's octets and bits, whatever they are given: the first refusal that applies, with the lent buffers as before; or what then stands in
 -- them. Proved in proofs/laws/Says.
-use Rattle.std.specs.Prelude.{List, ◌⊎◌, ◌≡◌, ℕ, ◌<◌, length, get_or, take}
+use Rattle.std.specs.Prelude.{List, ◌⊎◌, ◌≡◌, ℕ, ◌<◌, length, get_or, take, Option, None, Some}
 use Rattle.bits.specs.Bits.{Bits, digits, total}
 use Rattle.order.specs.Order.{from1}
 use Rattle.tables.specs.FullRate.{importance}
 use Rattle.answers.specs.Answers.{Refuses, Returns, of_told, returned}
-use Rattle.answers.specs.declared.Maybe.{Maybe}
-use Rattle.answers.specs.declared.Maybe.TheVariants.{None, Some}
 use Rattle.frames.specs.Answers.{frame_written, FrameAnswer, frame_read}
 use Rattle.frames.specs.Frame.{Place, sync, one, C, D, T, stands_in, place_at, data_bits, written_at, frame, control_of, speech_of, uplink, downlink}
 use Rattle.frames.specs.Octets.{unpacked}
@@ -67,7 +65,7 @@ abbrev pub ThirtyFive : Type 0
 ThirtyFive = total 320 (λ k. fixes (place_at k)) ≡ 35
 
 -- what is returned, and what the two lent buffers then hold
-pub record FrameReturns (a : FrameAnswer) (number : Maybe) (c d : List ℕ) : Type 0 where
+pub record FrameReturns (a : FrameAnswer) (number : Option ℕ) (c d : List ℕ) : Type 0 where
   pub told : of_told a.result ≡ returned number None
   pub control : a.control ≡ c
   pub speech : a.speech ≡ d

@@ -8,8 +8,8 @@ fn put_group(fifteen: &[u8], sixteen: &mut [u8])
     requires { (length fifteen.now ≡ 15) × (length sixteen.old ≡ 16) }
     ensures { sixteen.new ≡ 1 ∷ fifteen.now }
 {
-    bits::fill(1, &mut sixteen[0..1]);
-    bits::copy(fifteen, &mut sixteen[1..16]);
+    sixteen[0] = 1;
+    sixteen[1..].copy_from_slice(fifteen);
 }
 
 // The carried bits in their places, with all that is fixed.
@@ -17,14 +17,12 @@ pub fn lay_out(carried: &[u8], frame: &mut [u8])
     requires { (length carried.now ≡ 285) × (length frame.old ≡ 320) }
     ensures { frame.new ≡ laid_out carried.now }
 {
-    bits::fill(0, &mut frame[0..16]);
-    let mut group = 0;
-    while group < 19 {
+    frame[..16].fill(0);
+    for group in 0..19 {
         put_group(
             &carried[15 * group..15 * group + 15],
             &mut frame[16 * group + 16..16 * group + 32],
         );
-        group += 1;
     }
 }
 
@@ -33,13 +31,10 @@ pub fn take_out(frame: &[u8], carried: &mut [u8])
     requires { (length frame.now ≡ 320) × (length carried.old ≡ 285) }
     ensures { carried.new ≡ taken_out frame.now }
 {
-    let mut group = 0;
-    while group < 19 {
-        bits::copy(
+    for group in 0..19 {
+        carried[15 * group..15 * group + 15].copy_from_slice(
             &frame[16 * group + 17..16 * group + 32],
-            &mut carried[15 * group..15 * group + 15],
         );
-        group += 1;
     }
 }
 
@@ -48,15 +43,5 @@ pub fn is_framed(frame: &[u8]) -> bool
     requires { length frame.now ≡ 320 }
     ensures { result ≡ fixed_right frame.now }
 {
-    if !bits::none_over(&frame[0..16], 0) {
-        return false;
-    }
-    let mut group = 0;
-    while group < 19 {
-        if frame[16 * group + 16] != 1 {
-            return false;
-        }
-        group += 1;
-    }
-    true
+    bits::none_over(&frame[..16], 0) && (1..20).all(|group| frame[16 * group] == 1)
 }

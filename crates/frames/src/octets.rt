@@ -4,15 +4,13 @@ ghost use Rattle.bits.specs.Bits.{Bits, value};
 ghost use Rattle.frames.specs.Octets.{packed, unpacked};
 
 // The octet that eight bits make, the highest first.
-fn octet(eight: &[u8]) -> u8
+fn octet_of(eight: &[u8]) -> u8
     requires { (length eight.now ≡ 8) × Bits eight.now }
     ensures { result ≡ value eight.now }
 {
     let mut x = 0;
-    let mut i = 0;
-    while i < 8 {
-        x = 2 * x + eight[i];
-        i += 1;
+    for bit in eight {
+        x = 2 * x + *bit;
     }
     x
 }
@@ -22,10 +20,8 @@ pub fn pack(bits: &[u8], octets: &mut [u8])
     requires { (Bits bits.now) × (length bits.now ≡ 8 * length octets.old) }
     ensures { octets.new ≡ packed bits.now }
 {
-    let mut o = 0;
-    while o < octets.len() {
-        octets[o] = octet(&bits[8 * o..8 * o + 8]);
-        o += 1;
+    for (o, octet) in octets.iter_mut().enumerate() {
+        *octet = octet_of(&bits[8 * o..8 * o + 8]);
     }
 }
 
@@ -34,9 +30,7 @@ pub fn unpack(octets: &[u8], bits: &mut [u8])
     requires { length bits.old ≡ 8 * length octets.now }
     ensures { bits.new ≡ unpacked octets.now }
 {
-    let mut o = 0;
-    while o < octets.len() {
-        bits::put_digits(octets[o] as u64, &mut bits[8 * o..8 * o + 8]);
-        o += 1;
+    for (o, octet) in octets.iter().enumerate() {
+        bits::put_digits(u64::from(*octet), &mut bits[8 * o..8 * o + 8]);
     }
 }

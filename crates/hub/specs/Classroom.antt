@@ -1,9 +1,8 @@
 -- What is promised of a hub after any calls, each answered as its contract says, from a fresh one. Proved in proofs/laws/Classroom.
-use Rattle.std.specs.Prelude.{List, [], ◌∷◌, ◌⊎◌, ◌≡◌, ℕ, ◌+◌, ◌*◌, ◌≤◌, ◌<◌}
+use Rattle.std.specs.Prelude.{List, [], ◌∷◌, ◌⊎◌, ◌≡◌, ℕ, ◌+◌, ◌*◌, ◌≤◌, ◌<◌, Some, Ok}
 use Rattle.bits.specs.Bits.{missing}
 use Rattle.answers.specs.Answers.{Answer}
 use Rattle.answers.specs.Calls.{answers_to, Happened, handed_back}
-use Rattle.answers.specs.declared.Maybe.TheVariants.{Some}
 use Rattle.coder.specs.Entries.{Given, access_sent}
 use Rattle.coder.specs.Promises.{altered, whole}
 use Rattle.coder.specs.Received.{access_received}
@@ -82,7 +81,7 @@ Kept p (c ∷ cs) = (c ≡ remove p → ⊥) × Kept p cs
 unfoldable pub EnrolledBy : List Call → List (Answer Answered) → ℕ → ℕ → Type 0
 EnrolledBy [] given p i = ⊥
 EnrolledBy (c ∷ cs) [] p i = ⊥
-EnrolledBy (c ∷ cs) (x ∷ xs) p i = ((c ≡ enrol i) × (x.result.said ≡ Place p) × Kept p cs) ⊎ EnrolledBy cs xs p i
+EnrolledBy (c ∷ cs) (x ∷ xs) p i = ((c ≡ enrol i) × (x.result.said ≡ Ok (Place p)) × Kept p cs) ⊎ EnrolledBy cs xs p i
 
 abbrev pub AsTheCallsSay : Type 0
 AsTheCallsSay =

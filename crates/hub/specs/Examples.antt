@@ -1,20 +1,18 @@
 -- Examples, worked out by the checker: a class of thirty.
-use Rattle.std.specs.Prelude.{List, [], ◌∷◌, ◌++◌, map, ◌≡◌, refl, ◌-◌, drop}
+use Rattle.std.specs.Prelude.{List, [], ◌∷◌, ◌++◌, map, ◌≡◌, ℕ, refl, ◌-◌, drop, Option, None, Some}
 use Rattle.bits.specs.Bits.{tab, tab_from}
 use Rattle.answers.specs.Answers.{Answer}
 use Rattle.answers.specs.Calls.{answers_to}
-use Rattle.answers.specs.declared.Maybe.{Maybe}
-use Rattle.answers.specs.declared.Maybe.TheVariants.{None, Some}
 use Rattle.hub.specs.Classroom.{hub_answers}
 use Rattle.hub.specs.Hub.{standing, who_at, first_where, place_of, fresh_hub, stands_now, afterwards, enrol_judged, enrol_told, enrol_answer, remove_told, remove_answer, Call, enrol, remove, hub_answer}
 use Rattle.hub.specs.Says.{of_said, place_said}
 use Rattle.hub.specs.declared.Answered.{Answered}
 
 -- what the calls are answered: places, and numbers
-abbrev places_of : List Call → List Maybe
+abbrev places_of : List Call → List (Option ℕ)
 places_of calls = map (λ (a : Answer Answered). place_said a.result.said) (hub_answers calls)
 
-abbrev numbers_of : List Call → List Maybe
+abbrev numbers_of : List Call → List (Option ℕ)
 numbers_of calls = map (λ (a : Answer Answered). (of_said a.result.said).number) (hub_answers calls)
 
 -- the firm's thirty kits: all have identity 7. One gets a place, and each other is refused with 14

@@ -1,18 +1,16 @@
 -- 02, M-112: the classroom hub. Thirty places, at each of which the identity of a kit stands or nobody; and the whole answer of each call, for every value of a hub.
-use Rattle.std.specs.Prelude.{Bool, true, false, List, [], ◌∷◌, ℕ, suc, eqb, leb, ltb, get_or, set}
+use Rattle.std.specs.Prelude.{Bool, true, false, List, [], ◌∷◌, ℕ, suc, eqb, leb, ltb, get_or, set, Result, Ok, Err}
 use Rattle.bits.specs.Bits.{pick, both, none_over, tab}
-use Rattle.answers.specs.Answers.{Answer, of_heard, or_none, sent_or}
-use Rattle.answers.specs.declared.Heard.{Heard}
-use Rattle.answers.specs.declared.Heard.TheVariants as heard
+use Rattle.answers.specs.Answers.{Answer, of_heard, or_none, sent_or, Told, Heard}
+use Rattle.answers.specs.declared.Refusal.{Refusal}
 use Rattle.answers.specs.declared.Refusal.TheVariants.{Length, NotBits, Identity, Taken, AllInUse, EmptyPlace, NoneAccepts}
-use Rattle.answers.specs.declared.Told.{Told}
-use Rattle.answers.specs.declared.Told.TheVariants.{Done, Refused}
 use Rattle.coder.specs.Entries.{lengths}
 use Rattle.coder.specs.Received.{access_received}
 use Rattle.hub.specs.declared.Answered.{Answered}
 use Rattle.hub.specs.declared.Hub.{Hub}
 use Rattle.hub.specs.declared.Said.{Said}
 use Rattle.hub.specs.declared.Said.TheVariants as said
+use Rattle.answers.specs.declared.Unheard.TheVariants as unheard
 
 -- ---- the places, 0 to 29
 -- who stands at a place that holds the byte x: an identity, 0 to 63, or nobody
@@ -42,17 +40,21 @@ fresh_hub = record { places = tab 30 (λ p. nobody) }
 unfoldable pub stands_now : Hub → ℕ → ℕ → Hub
 stands_now h p who = record { places = set h.places p who }
 
+-- what is said of a call: what is done, or why not
+abbrev pub HubSaid : Type 0
+HubSaid = Result Said Refusal
+
 -- done: what is said, and the next hub; refused: the number, and the hub as before
 unfoldable pub afterwards : Told → Said → Hub → Hub → Answered
-afterwards Done x next h = record { said = x; next = next }
-afterwards (Refused r) x next h = record { said = said.Refused r; next = h }
+afterwards (Ok done) x next h = record { said = Ok x; next = next }
+afterwards (Err r) x next h = record { said = Err r; next = h }
 
 -- ---- enrol: a kit with identity i gets the smallest free place. Where several apply: 3, 14, 15. Is i at most 63, does it stand at a place, is a place free?
 unfoldable pub enrol_judged : Bool → Bool → Bool → Told
-enrol_judged false stands free = Refused Identity
-enrol_judged true true free = Refused Taken
-enrol_judged true false false = Refused AllInUse
-enrol_judged true false true = Done
+enrol_judged false stands free = Err Identity
+enrol_judged true true free = Err Taken
+enrol_judged true false false = Err AllInUse
+enrol_judged true false true = Ok tt
 
 unfoldable pub enrol_told : Hub → ℕ → Told
 enrol_told h i = enrol_judged (leb i 63) (ltb (place_of h i) 30) (ltb (place_of h nobody) 30)
@@ -62,16 +64,16 @@ enrol_answer h i = afterwards (enrol_told h i) (said.Place (place_of h nobody)) 
 
 -- ---- remove: place p is free again. 16: it is over 29, or nobody stands there
 unfoldable pub remove_told : Hub → ℕ → Told
-remove_told h p = pick (both (ltb p 30) (leb (who_at h p) 63)) Done (Refused EmptyPlace)
+remove_told h p = pick (both (ltb p 30) (leb (who_at h p) 63)) (Ok tt) (Err EmptyPlace)
 
 unfoldable pub remove_answer : Hub → ℕ → Answered
 remove_answer h p = afterwards (remove_told h p) said.Removed (stands_now h p nobody) h
 
 -- ---- hear: 36 received bytes go to the place whose identity accepts them, by the access entry's own answer
 abbrev pub is_good : Heard → Bool
-is_good (heard.Good k) = true
-is_good (heard.Refused r) = false
-is_good (heard.Bad k) = false
+is_good (Ok k) = true
+is_good (Err (unheard.Refused r)) = false
+is_good (Err (unheard.Bad k)) = false
 
 unfoldable pub accepts : List ℕ → List ℕ → ℕ → Bool
 accepts e d i = is_good (access_received i e d).result
@@ -81,10 +83,10 @@ accepting_place h e d = first_where (accepts e d) h.places
 
 -- where several apply: 1, 2, 17. Are the lengths right, is no byte over 2, does an identity accept?
 unfoldable pub hear_judged : Bool → Bool → Bool → Told
-hear_judged false symbols accepted = Refused Length
-hear_judged true false accepted = Refused NotBits
-hear_judged true true false = Refused NoneAccepts
-hear_judged true true true = Done
+hear_judged false symbols accepted = Err Length
+hear_judged true false accepted = Err NotBits
+hear_judged true true false = Err NoneAccepts
+hear_judged true true true = Ok tt
 
 unfoldable pub hear_told : Hub → List ℕ → List ℕ → Told
 hear_told h e d = hear_judged (lengths e 36 d 8) (none_over 2 e) (ltb (accepting_place h e d) 30)

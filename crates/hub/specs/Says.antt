@@ -1,35 +1,32 @@
 -- What enrol, remove and hear answer, in 02's numbers and places, for every value of a hub: the first refusal that applies, with nothing besides it and all as before; what a
 -- call that is done returns, writes and hands back. Proved in proofs/laws/Says.
-use Rattle.std.specs.Prelude.{List, [], ◌≡◌, ℕ, ◌≤◌, ◌<◌, length}
+use Rattle.std.specs.Prelude.{List, [], ◌≡◌, ℕ, ◌≤◌, ◌<◌, length, Option, None, Some, Ok, Err}
 use Rattle.bits.specs.Bits.{Symbols}
 use Rattle.answers.specs.Answers.{Answer, number_of, returned}
-use Rattle.answers.specs.declared.Maybe.{Maybe}
-use Rattle.answers.specs.declared.Maybe.TheVariants.{None, Some}
 use Rattle.answers.specs.declared.Returned.{Returned}
 use Rattle.coder.specs.Entries.{Given}
 use Rattle.coder.specs.Received.{access_received}
 use Rattle.coder.specs.Says.{Accepts}
-use Rattle.hub.specs.Hub.{nobody, standing, who_at, fresh_hub, stands_now, Call, enrol, remove, hear, hub_answer}
+use Rattle.hub.specs.Hub.{HubSaid, nobody, standing, who_at, fresh_hub, stands_now, Call, enrol, remove, hear, hub_answer}
 use Rattle.hub.specs.declared.Answered.{Answered}
 use Rattle.hub.specs.declared.Hub.{Hub}
-use Rattle.hub.specs.declared.Said.{Said}
-use Rattle.hub.specs.declared.Said.TheVariants.{Place, Removed, Request, Refused}
+use Rattle.hub.specs.declared.Said.TheVariants.{Place, Removed, Request}
 
 -- ---- what is said, in numbers: the refusal and the count, and the place
-abbrev pub of_said : Said → Returned
-of_said (Place p) = returned None None
-of_said Removed = returned None None
-of_said (Request p k) = returned None (Some k)
-of_said (Refused r) = returned (Some (number_of r)) None
+abbrev pub of_said : HubSaid → Returned
+of_said (Ok (Place p)) = returned None None
+of_said (Ok Removed) = returned None None
+of_said (Ok (Request p k)) = returned None (Some k)
+of_said (Err r) = returned (Some (number_of r)) None
 
-abbrev pub place_said : Said → Maybe
-place_said (Place p) = Some p
-place_said Removed = None
-place_said (Request p k) = Some p
-place_said (Refused r) = None
+abbrev pub place_said : HubSaid → Option ℕ
+place_said (Ok (Place p)) = Some p
+place_said (Ok Removed) = None
+place_said (Ok (Request p k)) = Some p
+place_said (Err r) = None
 
 -- the number, the place and the count, where they are returned; what the lent buffer then holds; the next hub
-pub record HubReturns (a : Answer Answered) (number place count : Maybe) (left : List ℕ) (next : Hub) : Type 0 where
+pub record HubReturns (a : Answer Answered) (number place count : Option ℕ) (left : List ℕ) (next : Hub) : Type 0 where
   pub told : of_said a.result.said ≡ returned number count
   pub where_to : place_said a.result.said ≡ place
   pub buffer : a.left ≡ left

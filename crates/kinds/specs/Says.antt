@@ -1,7 +1,6 @@
 -- What a block brings, in 01's own numbers and values, of THE nearest block of each kind. Proved in proofs/laws/Says.
-use Rattle.std.specs.Prelude.{List, ◌++◌, ◌≡◌, ℕ, ◌<◌, drop}
+use Rattle.std.specs.Prelude.{List, ◌++◌, ◌≡◌, ℕ, ◌<◌, drop, None, Some}
 use Rattle.parity.specs.Division.{control_g}
-use Rattle.answers.specs.declared.Maybe.TheVariants.{None, Some}
 use Rattle.coder.specs.Says.{BlockDecodes, SpeechDecodes}
 use Rattle.chart.specs.Answers.{values}
 use Rattle.chart.specs.declared.Kind.TheVariants.{Speech, Facch, Neither}

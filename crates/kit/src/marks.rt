@@ -1,31 +1,25 @@
-// Blocks that are handed in: the entry of each channel that is marked.
-ghost use Rattle.std.specs.Prelude.{◌≤◌, length};
+// Blocks that are handed in: the entry that marks one.
+use crate::reply::Asked;
+use marking::Block;
+use text::read_bits;
+use words::{Answer, Argument};
 
-use text::{read_bits, same};
-use words::{Answer, field};
-
-// mark CHANNEL R U COUNT: the answer to a line whose received bits and count are read.
-pub fn mark(line: &[u8], received: &[u8], count: u16) -> Answer
-    requires { length line.now ≤ 1000 }
-{
+// mark CHANNEL R U COUNT: the answer to a line whose received bits and count are read; none where no such channel is marked.
+pub fn mark(asked: Asked, received: &[u8], count: u16) -> Option<Answer> {
+    let channel = marked(asked.argument(Argument::Word)?)?;
     let mut block = [0u8; 1000];
-    let n = read_bits(field(line, 3), &mut block);
-    mark_on(field(line, 1), received, &block[0..n], count as u64)
+    let n = read_bits(asked.argument(Argument::Block)?, &mut block);
+    let mark = marking::mark(channel, received, &block[..n], u64::from(count));
+    Some(Answer::from(mark))
 }
 
-// The mark of a block on the channel whose word is given.
-fn mark_on(channel: &[u8], received: &[u8], block: &[u8], count: u64) -> Answer {
-    if same(channel, b"speech") {
-        return Answer::of_mark(marking::mark_speech(received, block, count));
+// The channel whose word is given, if its blocks are marked.
+fn marked(word: &[u8]) -> Option<Block> {
+    match word {
+        b"speech" => Some(Block::Speech),
+        b"control" => Some(Block::Control),
+        b"access" => Some(Block::Access),
+        b"sch" => Some(Block::Sch),
+        _ => None,
     }
-    if same(channel, b"control") {
-        return Answer::of_mark(marking::mark_control(received, block, count));
-    }
-    if same(channel, b"access") {
-        return Answer::of_mark(marking::mark_access(received, block, count));
-    }
-    if same(channel, b"sch") {
-        return Answer::of_mark(marking::mark_sch(received, block, count));
-    }
-    Answer::unknown()
 }

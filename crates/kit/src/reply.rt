@@ -1,161 +1,148 @@
 // From a line to its answer.
-ghost use Rattle.std.specs.Prelude.{◌≡◌, ◌≤◌, length};
+ghost use Rattle.std.specs.Prelude.{◌≤◌, IfSome, length};
 
 use crate::blocks::{receive, send};
 use crate::framing::answer_frame;
 use crate::marks::mark;
-use crate::streams::{Said, Streams, call, call_hub};
-use text::{digit, read_bits, same};
-use words::{
-    Answer, Asks, Number, Verb, asked_by, field, place_of, read_number, rest_of, row_of, verb_at,
-    writes,
-};
+use crate::streams::Streams;
+use answers::Returned;
+use text::read_bits;
+use words::{Answer, Argument, Asks, Verb, field, read_number, rest_of};
 
 // The most that a line may lend.
-const MOST: usize = 600;
+pub const MOST: usize = 600;
 
-// The answer to a line, and the streams after it.
-pub fn reply(streams: Streams, line: &[u8], written: &mut [u8]) -> Said
-    requires { 600 ≤ length written.old }
-{
+// A line that uses a verb.
+#[derive(Clone, Copy)]
+pub struct Asked<'a> {
+    verb: Verb,
+    line: &'a [u8],
+    ghost short: { length line.now ≤ 1000 },
+}
+
+impl<'a> Asked<'a> {
+    // None where it uses none.
+    fn of(line: &'a [u8]) -> Option<Self> {
+        if line.len() > 1000 {
+            return None;
+        }
+        let verb = Verb::of(line)?;
+        Some(Self { verb, line })
+    }
+
+    // The verb's argument of a kind; none where it takes none.
+    pub fn argument(self, kind: Argument) -> Option<&'a [u8]>
+        ensures { IfSome result (λ x. length x.now ≤ 1000) }
+    {
+        self.verb.argument(kind, self.line)
+    }
+}
+
+// The answer to a line.
+pub fn reply(streams: &mut Streams, line: &[u8], written: &mut [u8; MOST]) -> Answer {
+    match answer(streams, line, written) {
+        Some(answer) => answer,
+        None => Answer::unknown(),
+    }
+}
+
+// The answer to a line; none where it asks for nothing.
+fn answer(streams: &mut Streams, line: &[u8], written: &mut [u8; MOST]) -> Option<Answer> {
     if line.len() > 1000 {
-        return unknown(streams);
+        return None;
     }
-    if same(field(line, 0), b"lend") {
-        return reply_lent(streams, line, written);
+    match field(line, 0) {
+        b"lend" => answer_lent(streams, line, written),
+        _ => answer_called(streams, Asked::of(line)?, written),
     }
-    let k = row_of(line);
-    if let Asks::Frame(asked) = asked_by(k) {
-        return Said {
-            answer: answer_frame(asked, line, written),
-            streams,
-        };
+}
+
+// The answer to a line whose call writes into the buffer's beginning.
+fn answer_called(streams: &mut Streams, asked: Asked, written: &mut [u8; MOST]) -> Option<Answer> {
+    if let Asks::Frame(call) = asked.verb.asks {
+        return answer_frame(asked, call, written);
     }
-    let end = writes(verb_at(k));
-    match number_of(line, verb_at(k)) {
-        Number::Bad => unknown(streams),
-        Number::Is(number) => answer_verb(streams, k, number, line, &mut written[0..end]),
-    }
+    let end = asked.verb.asks.writes();
+    answer_verb(streams, asked, &mut written[..end])
 }
 
 // lend N B LINE: the answer to LINE, whose call is lent N bytes, each the digit B; they are said as they then are.
-fn reply_lent(streams: Streams, line: &[u8], written: &mut [u8]) -> Said
-    requires { (length line.now ≤ 1000) × (600 ≤ length written.old) }
+fn answer_lent(streams: &mut Streams, line: &[u8], written: &mut [u8; MOST]) -> Option<Answer> {
+    let n = lent_by(field(line, 1))?;
+    let byte = digit_of(field(line, 2))?;
+    let asked = Asked::of(rest_of(line, 3))?;
+    if asked.verb.asks.writes() == 0 {
+        return None;
+    }
+    let lent = &mut written[..n];
+    lent.fill(byte);
+    let answer = answer_verb(streams, asked, lent)?;
+    Some(answer.with_lent(n))
+}
+
+// How many bytes a line lends.
+fn lent_by(characters: &[u8]) -> Option<usize>
+    ensures { IfSome result (λ n. n ≤ 600) }
 {
-    let rest = rest_of(line, 3);
-    let k = row_of(rest);
-    let n = lent_by(line);
-    let byte = digit_of(field(line, 2));
-    if n > MOST || byte > 9 || writes(verb_at(k)) == 0 {
-        return unknown(streams);
-    }
-    match number_of(rest, verb_at(k)) {
-        Number::Bad => unknown(streams),
-        Number::Is(number) => {
-            fill(written, byte);
-            let said = answer_verb(streams, k, number, rest, &mut written[0..n]);
-            let answer = said.answer;
-            let after = said.streams;
-            Said {
-                answer: answer.with_lent(n),
-                streams: after,
-            }
-        }
+    let n = usize::from(read_number(characters)?);
+    if n > MOST { None } else { Some(n) }
+}
+
+// The digit that is the only character.
+fn digit_of(characters: &[u8]) -> Option<u8> {
+    match characters {
+        [digit @ b'0'..=b'9'] => Some(*digit - b'0'),
+        _ => None,
     }
 }
 
-// How many bytes a line lends; more than it may where it says no number.
-fn lent_by(line: &[u8]) -> usize {
-    match read_number(field(line, 1)) {
-        Number::Is(n) => n as usize,
-        Number::Bad => MOST + 1,
-    }
-}
-
-// The digit that is the only character; 255 where there is another, or are more.
-fn digit_of(characters: &[u8]) -> u8 {
-    if characters.len() == 1 {
-        digit(characters[0])
-    } else {
-        255
-    }
-}
-
-fn fill(written: &mut [u8], byte: u8)
-    ensures { length written.new ≡ length written.old }
-{
-    for i in 0..written.len() {
-        written[i] = byte;
-    }
-}
-
-// The answer to a line that asks for nothing.
-fn unknown(streams: Streams) -> Said {
-    Said {
-        answer: Answer::unknown(),
-        streams,
-    }
+// The answer to a line that uses a verb: its number and its bits are read, and room for what the verb writes is lent.
+fn answer_verb(streams: &mut Streams, asked: Asked, lent: &mut [u8]) -> Option<Answer> {
+    let number = number_of(asked)?;
+    let mut read = [0u8; 1000];
+    let n = read_bits(bits_of(asked), &mut read);
+    answer_asked(streams, asked, number, &read[..n], lent)
 }
 
 // The number among a line's arguments; 0 where the verb takes none.
-fn number_of(line: &[u8], verb: Verb) -> Number {
-    let place = place_of(b'n', verb);
-    if place > field(&verb, 2).len() {
-        return Number::Is(0);
+fn number_of(asked: Asked) -> Option<u16> {
+    match asked.argument(Argument::Number) {
+        Some(characters) => read_number(characters),
+        None => Some(0),
     }
-    read_number(field(line, place))
 }
 
-// The answer to the verb of row k: the line's bits are read, and room for what the verb writes is lent.
-fn answer_verb(streams: Streams, k: usize, number: u16, line: &[u8], lent: &mut [u8]) -> Said
-    requires { length line.now ≤ 1000 }
+// The bits among a line's arguments; none where the verb takes none.
+fn bits_of<'a>(asked: Asked<'a>) -> &'a [u8]
+    ensures { length result.now ≤ 1000 }
 {
-    let mut read = [0u8; 1000];
-    let n = read_bits(field(line, place_of(b'b', verb_at(k))), &mut read);
-    answer(streams, asked_by(k), line, number, &read[0..n], lent)
+    asked.argument(Argument::Bits).unwrap_or(b"")
 }
 
 // The answer to what a line asks for, with its number and its bits.
-fn answer(
-    streams: Streams,
-    asks: Asks,
-    line: &[u8],
+fn answer_asked(
+    streams: &mut Streams,
+    asked: Asked,
     number: u16,
     read: &[u8],
     written: &mut [u8],
-) -> Said
-    requires { length line.now ≤ 1000 }
-{
-    match asks {
+) -> Option<Answer> {
+    let bits = written.len();
+    match asked.verb.asks {
         Asks::Send(channel) => {
             let told = send(channel, number, read, written);
-            Said {
-                answer: Answer::of_returned(answers::of_told(told), written.len()),
-                streams,
-            }
+            Some(Answer::of_returned(Returned::from(told), bits))
         }
         Asks::Receive(channel) => {
             let returned = receive(channel, number, read, written);
-            Said {
-                answer: Answer::of_returned(returned, written.len()),
-                streams,
-            }
+            Some(Answer::of_returned(returned, bits))
         }
-        Asks::Whose => Said {
-            answer: Answer::of_whose(coder::whose_access(read)),
-            streams,
-        },
-        Asks::Mark => Said {
-            answer: mark(line, read, number),
-            streams,
-        },
-        Asks::View => Said {
-            answer: Answer::of_view(coder::view_trellis(read)),
-            streams,
-        },
-        Asks::Stream(asked) => call(streams, asked, number, read, written),
-        Asks::Hub(asked) => call_hub(streams, asked, number, read, written),
+        Asks::Whose => Some(Answer::from(coder::whose_access(read))),
+        Asks::Mark => mark(asked, read, number),
+        Asks::View => Some(Answer::from(coder::view_trellis(read))),
+        Asks::Stream(call) => Some(streams.call(call, number, read, written)),
+        Asks::Hub(call) => Some(streams.call_hub(call, number, read, written)),
         // a frame is answered before: it asks for the whole buffer
-        Asks::Frame(_) | Asks::Nothing => unknown(streams),
+        Asks::Frame(_) => None,
     }
 }

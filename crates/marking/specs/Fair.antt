@@ -1,23 +1,18 @@
 -- 02, M-111: what a class may rely on, once over a channel's numbers; and by coder's entries. Proved in proofs/laws/Fair, proofs/laws/Accepted and proofs/laws/Sent, for the four
 -- channels in proofs/laws/Channels.
-use Rattle.std.specs.Prelude.{List, ◌≡◌, ℕ, ◌+◌, ◌*◌, ◌≤◌, ◌<◌, length}
+use Rattle.std.specs.Prelude.{List, ◌≡◌, ℕ, ◌+◌, ◌*◌, ◌≤◌, ◌<◌, length, Option, None, Some, Ok, Err}
 use Rattle.bits.specs.Bits.{Bits, Symbols, missing}
 use Rattle.convolution.specs.Pairs.{coded}
 use Rattle.trellis.specs.Nearest.{disagreements, Candidate, Nearest, nearest, nearest_count, longest}
-use Rattle.answers.specs.Answers.{Answer, number_of}
-use Rattle.answers.specs.declared.Heard.{Heard}
-use Rattle.answers.specs.declared.Maybe.{Maybe}
-use Rattle.answers.specs.declared.Maybe.TheVariants.{None, Some}
-use Rattle.answers.specs.declared.Told.{Told}
+use Rattle.answers.specs.Answers.{Answer, number_of, Told, Heard}
 use Rattle.coder.specs.Blocks.{speech_u, control_u, access_u, sch_u}
 use Rattle.coder.specs.Entries.{Given, speech_sent, control_sent, access_sent, sch_sent}
 use Rattle.coder.specs.Promises.{altered}
 use Rattle.coder.specs.Received.{speech_received, control_received, access_received, sch_received}
 use Rattle.coder.specs.Says.{Accepts}
-use Rattle.marking.specs.Marks.{HasLength, HasTail, HasCount, IsFewest, counting, Marks}
+use Rattle.marking.specs.Marks.{Mark, HasLength, HasTail, HasCount, IsFewest, counting, Marks}
 use Rattle.marking.specs.declared.Fault.TheVariants.{Length, Tail, Count, Fewest}
-use Rattle.marking.specs.declared.Mark.{Mark}
-use Rattle.marking.specs.declared.Mark.TheVariants.{Yes, No, Refused}
+use Rattle.marking.specs.declared.No.TheVariants.{Wrong, Refused}
 
 -- what every channel has: a block ends in four zeros and is at most the longest, and of the bytes that are read its pairs are the first
 pub record Channel (reads n : ℕ) : Type 0 where
@@ -26,24 +21,24 @@ pub record Channel (reads n : ℕ) : Type 0 where
   pub room : 2 * n ≤ reads
 
 -- ---- what is said, in 01's numbers and in the request's order
-abbrev pub number_in : Mark → Maybe
-number_in Yes = None
-number_in (No what) = None
-number_in (Refused why) = Some (number_of why)
+abbrev pub number_in : Mark → Option ℕ
+number_in (Ok done) = None
+number_in (Err (Wrong what)) = None
+number_in (Err (Refused why)) = Some (number_of why)
 
 pub record MarkSays (reads n : ℕ) (r u : List ℕ) (count : ℕ) (m : Mark) : Type 0 where
   pub one : (length r ≡ reads → ⊥) → number_in m ≡ Some 1
   pub two : length r ≡ reads → (Symbols r × Bits u → ⊥) → number_in m ≡ Some 2
-  pub no_length : length r ≡ reads → Symbols r → Bits u → (HasLength n u → ⊥) → m ≡ No Length
-  pub no_tail : length r ≡ reads → Symbols r → Bits u → HasLength n u → (HasTail n u → ⊥) → m ≡ No Tail
-  pub no_count : length r ≡ reads → Symbols r → Bits u → HasLength n u → HasTail n u → (HasCount (counting n r) u count → ⊥) → m ≡ No Count
-  pub no_fewest : length r ≡ reads → Symbols r → Bits u → HasLength n u → HasTail n u → HasCount (counting n r) u count → (IsFewest (counting n r) n count → ⊥) → m ≡ No Fewest
-  pub then_yes : length r ≡ reads → Symbols r → Candidate n u → HasCount (counting n r) u count → IsFewest (counting n r) n count → m ≡ Yes
-  pub only_then : m ≡ Yes → (length r ≡ reads) × Symbols r × Candidate n u × HasCount (counting n r) u count × IsFewest (counting n r) n count
+  pub no_length : length r ≡ reads → Symbols r → Bits u → (HasLength n u → ⊥) → m ≡ Err (Wrong Length)
+  pub no_tail : length r ≡ reads → Symbols r → Bits u → HasLength n u → (HasTail n u → ⊥) → m ≡ Err (Wrong Tail)
+  pub no_count : length r ≡ reads → Symbols r → Bits u → HasLength n u → HasTail n u → (HasCount (counting n r) u count → ⊥) → m ≡ Err (Wrong Count)
+  pub no_fewest : length r ≡ reads → Symbols r → Bits u → HasLength n u → HasTail n u → HasCount (counting n r) u count → (IsFewest (counting n r) n count → ⊥) → m ≡ Err (Wrong Fewest)
+  pub then_yes : length r ≡ reads → Symbols r → Candidate n u → HasCount (counting n r) u count → IsFewest (counting n r) n count → m ≡ Ok tt
+  pub only_then : m ≡ Ok tt → (length r ≡ reads) × Symbols r × Candidate n u × HasCount (counting n r) u count × IsFewest (counting n r) n count
 
 -- ---- a block gets yes: it is the one answer that is allowed
 abbrev pub GetsYes : ℕ → ℕ → List ℕ → List ℕ → ℕ → Type 0
-GetsYes reads n r u count = Marks reads n r u count Yes
+GetsYes reads n r u count = Marks reads n r u count (Ok tt)
 
 -- THE nearest block with its count, which is the decoder's answer, gets yes
 abbrev pub NearestGetsYes : ℕ → ℕ → Type 0
@@ -74,7 +69,7 @@ pub record Nearer (c : List ℕ) (n count : ℕ) : Type 0 where
   pub fewer : disagreements c (coded block) < count
 
 abbrev pub NoFewestIsTrue : ℕ → ℕ → Type 0
-NoFewestIsTrue reads n = (r u : List ℕ) (count : ℕ) → Marks reads n r u count (No Fewest) → Nearer (counting n r) n count
+NoFewestIsTrue reads n = (r u : List ℕ) (count : ℕ) → Marks reads n r u count (Err (Wrong Fewest)) → Nearer (counting n r) n count
 
 -- ---- by coder's entries. What they hand over as good, laid out as it is sent, gets yes with the count that they give
 abbrev pub AcceptedGetsYes : ℕ → ℕ → (List ℕ → List ℕ → Answer Heard) → (List ℕ → List ℕ) → Type 0

@@ -6,14 +6,48 @@ ghost use Rattle.bits.specs.Bits.{Bits, Symbols, both, none_over};
 ghost use Rattle.convolution.specs.Pairs.{coded};
 ghost use Rattle.trellis.specs.Nearest.{disagreements, longest};
 ghost use Rattle.coder.specs.Entries.{judged};
-ghost use Rattle.marking.specs.Marks.{Deserves, SpeechMarks, ControlMarks, AccessMarks, SchMarks, Marks};
-ghost use Rattle.marking.specs.Fair.{Channel};
+ghost use Rattle.marking.specs.Marks.{Deserves, BlockMarks, bits_of, reads_of};
+ghost use Rattle.marking.specs.declared.No.TheVariants.{Refused};
 
-use answers::{Refusal, Told};
+use answers::Refusal;
 use trellis::LONGEST;
 
+// The channel of a block that is marked.
+#[derive(Clone, Copy, PartialEq, Eq)]
+pub enum Block {
+    Speech,
+    Control,
+    Access,
+    Sch,
+}
+
+impl Block {
+    // How many bytes are received.
+    fn reads(self) -> usize
+        ensures { result ≡ reads_of self }
+    {
+        match self {
+            Block::Speech | Block::Control => 456,
+            Block::Access => 36,
+            Block::Sch => 78,
+        }
+    }
+
+    // How many bits the block has; of the bytes received the first two for each bit count, of speech the first 378.
+    fn bits(self) -> usize
+        ensures { result ≡ bits_of self }
+    {
+        match self {
+            Block::Speech => 189,
+            Block::Control => 228,
+            Block::Access => 18,
+            Block::Sch => 39,
+        }
+    }
+}
+
 // What is wrong first of a block and its count.
-#[derive(Drop)]
+#[derive(Clone, Copy, PartialEq, Eq)]
 pub enum Fault {
     // the block has another length than a candidate
     Length,
@@ -25,24 +59,30 @@ pub enum Fault {
     Fewest,
 }
 
-// What is said of a block and its count.
-#[derive(Drop)]
-pub enum Mark {
-    Yes,
-    No(Fault),
+// Why a block and its count do not get yes: what is wrong with them, or why they are not marked.
+#[derive(Clone, Copy, PartialEq, Eq)]
+pub enum No {
+    Wrong(Fault),
     Refused(Refusal),
 }
 
+impl From<Refusal> for No {
+    ghost from_gives = { λ why no. no ≡ Refused why };
+
+    fn from(why: Refusal) -> No {
+        No::Refused(why)
+    }
+}
+
+// That u holds bits stands in the clauses below, and in no type: convolution::code, which is public (docs/CONTRACTS.md), takes a slice, so a type would be taken off again.
 // In how many places what was received, c, disagrees with the coded bits x.
 fn count_apart(c: &[u8], x: &[u8]) -> u16
     requires { (length c.now ≡ length x.now) × (length x.now ≤ 2 * longest) }
     ensures { result ≡ disagreements c.now x.now }
 {
     let mut sum = 0;
-    let mut i = 0;
-    while i < x.len() {
-        sum += trellis::apart(x[i], c[i]);
-        i += 1;
+    for (c, x) in c.iter().zip(x) {
+        sum += trellis::apart(*x, *c);
     }
     sum
 }
@@ -74,77 +114,48 @@ fn ends_in_zeros(u: &[u8]) -> bool
     bits::none_over(&u[u.len() - 4..], 0)
 }
 
+// n goes beside c, as `fewest` of trellis has them (docs/CONTRACTS.md).
 // What a block u and a count deserve, of n bits, where c was received: what is asked is asked in its order.
-fn examine(c: &[u8], n: usize, u: &[u8], count: u64) -> Mark
+fn examine(c: &[u8], n: usize, u: &[u8], count: u64) -> Result<(), No>
     requires { (4 ≤ n) × (n ≤ longest) × (length c.now ≡ 2 * n) × (Symbols c.now) × Bits u.now }
     ensures { Deserves c.now n u.now count result }
 {
     if u.len() != n {
-        return Mark::No(Fault::Length);
+        return Err(No::Wrong(Fault::Length));
     }
     if !ends_in_zeros(u) {
-        return Mark::No(Fault::Tail);
+        return Err(No::Wrong(Fault::Tail));
     }
     if count != true_count(c, u) as u64 {
-        return Mark::No(Fault::Count);
+        return Err(No::Wrong(Fault::Count));
     }
     if (trellis::fewest(c, n) as u64) < count {
-        return Mark::No(Fault::Fewest);
+        return Err(No::Wrong(Fault::Fewest));
     }
-    Mark::Yes
+    Ok(())
 }
 
 // The first refusal that applies, or none: r has to have so many bytes, none over 2, and no byte of u may be over 1.
-fn judge(r: &[u8], reads: usize, u: &[u8]) -> Told
+fn judge(r: &[u8], reads: usize, u: &[u8]) -> Result<(), Refusal>
     ensures { result ≡ judged (eqb (length r.now) reads) (both (none_over 2 r.now) (none_over 1 u.now)) true }
 {
     if r.len() != reads {
-        return Told::Refused(Refusal::Length);
+        return Err(Refusal::Length);
     }
     if !bits::none_over(r, bits::RECEIVED) {
-        return Told::Refused(Refusal::NotBits);
+        return Err(Refusal::NotBits);
     }
     if !bits::none_over(u, bits::SENT) {
-        return Told::Refused(Refusal::NotBits);
+        return Err(Refusal::NotBits);
     }
-    Told::Done
+    Ok(())
 }
 
-// The mark of a block u of n bits, where `reads` bytes are received, of which the first 2n count.
-fn mark_of(reads: usize, n: usize, r: &[u8], u: &[u8], count: u64) -> Mark
-    requires { Channel reads n }
-    ensures { Marks reads n r.now u.now count result }
+// The mark of a block u of this channel, and of a count, where r was received: it gets yes, or this is why not.
+pub fn mark(block: Block, r: &[u8], u: &[u8], count: u64) -> Result<(), No>
+    ensures { BlockMarks block r.now u.now count result }
 {
-    match judge(r, reads, u) {
-        Told::Done => examine(&r[0..2 * n], n, u, count),
-        Told::Refused(why) => Mark::Refused(why),
-    }
-}
-
-// Speech: 456 received bits, of which the first 378 count, and a block of 189.
-pub fn mark_speech(r: &[u8], u: &[u8], count: u64) -> Mark
-    ensures { SpeechMarks r.now u.now count result }
-{
-    mark_of(456, 189, r, u, count)
-}
-
-// Control: 456 received bits, and a block of 228.
-pub fn mark_control(r: &[u8], u: &[u8], count: u64) -> Mark
-    ensures { ControlMarks r.now u.now count result }
-{
-    mark_of(456, 228, r, u, count)
-}
-
-// Access: 36 received bits, and a block of 18.
-pub fn mark_access(r: &[u8], u: &[u8], count: u64) -> Mark
-    ensures { AccessMarks r.now u.now count result }
-{
-    mark_of(36, 18, r, u, count)
-}
-
-// SCH: 78 received bits, and a block of 39.
-pub fn mark_sch(r: &[u8], u: &[u8], count: u64) -> Mark
-    ensures { SchMarks r.now u.now count result }
-{
-    mark_of(78, 39, r, u, count)
+    judge(r, block.reads(), u)?;
+    let n = block.bits();
+    examine(&r[..2 * n], n, u, count)
 }

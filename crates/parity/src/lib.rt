@@ -34,17 +34,14 @@ fn bring_down(generator: u64, degree: u32, held: u64, bit: u64) -> u64
     brought ^ ((power(degree) + generator) * (brought >> degree))
 }
 
-// What division of w by D^degree + generator leaves, as a number.
+// What division of w by D^degree + generator leaves, as a number. The two stay two numbers: docs/CONTRACTS.md names two of the three functions with them as they are, and a type for them and for bits, which callers have as slices, would ask more.
 pub fn remainder(generator: u64, degree: u32, w: &[u8]) -> u64
     requires { (Generates generator degree) × (degree ≤ length w.now) × Bits w.now }
     ensures { result ≡ value (remainder (digits degree generator) w.now) }
 {
     let mut held = 0;
-    let mut i = 0;
-    while i < w.len() {
-        let next = bring_down(generator, degree, held, w[i] as u64);
-        held = next;
-        i += 1;
+    for bit in w {
+        held = bring_down(generator, degree, held, u64::from(*bit));
     }
     held
 }

@@ -16,23 +16,19 @@ fn twice(c: &[u8], whole: &mut [u8])
     ensures { whole.new ≡ c.now ++ c.now }
 {
     let n = c.len();
-    let m = whole.len();
-    bits::copy(c, &mut whole[0..n]);
-    bits::copy(c, &mut whole[n..m]);
+    whole[..n].copy_from_slice(c);
+    whole[n..].copy_from_slice(c);
 }
 
 // The bits of burst i modulo 4: at e(x) the one that the table has, 57 i further on, of block a where x is even and of block b where it
 // is odd. Both blocks stand twice, so that no bit is past the end.
-fn fill_bits(i: usize, a: &[u8], b: &[u8], e: &mut [u8])
-    requires { (i < 4) × (length a.now ≡ 912) × (length b.now ≡ 912) × (length e.old ≡ 116) }
+fn fill_bits(i: usize, a: &[u8; 912], b: &[u8; 912], e: &mut [u8])
+    requires { (i < 4) × (length e.old ≡ 116) }
     ensures { e.new ≡ tab 116 (laid i a.now b.now) }
 {
-    let at = bit_rows();
-    let mut x = 0;
-    while x < 58 {
-        e[2 * x] = a[at[x][0] as usize + 57 * i];
-        e[2 * x + 1] = b[at[x][1] as usize + 57 * i];
-        x += 1;
+    for (x, [even, odd]) in bit_rows().iter().enumerate() {
+        e[2 * x] = a[usize::from(*even) + 57 * i];
+        e[2 * x + 1] = b[usize::from(*odd) + 57 * i];
     }
 }
 
@@ -53,8 +49,8 @@ pub fn flags_of(p: u8, q: u8) -> u8
 }
 
 // Burst i of four, in which block a begins and block b goes on; both blocks stand twice.
-fn fill(i: usize, a: &[u8], b: &[u8], flags: u8, e: &mut [u8])
-    requires { (i < 4) × (length a.now ≡ 912) × (length b.now ≡ 912) × (length e.old ≡ 116) }
+fn fill(i: usize, a: &[u8; 912], b: &[u8; 912], flags: u8, e: &mut [u8])
+    requires { (i < 4) × (length e.old ≡ 116) }
     ensures { e.new ≡ burst_of_twice i a.now b.now flags }
 {
     fill_bits(i, a, b, e);
@@ -62,9 +58,10 @@ fn fill(i: usize, a: &[u8], b: &[u8], flags: u8, e: &mut [u8])
     e[58] = flag(flags, 2 * i + 1);
 }
 
+// Four calls, written out: each burst goes into a part of its own (docs/CONTRACTS.md, Forms by place).
 // Four bursts, each into its own part.
-fn fill_parts(a: &[u8], b: &[u8], flags: u8, e: &mut [u8])
-    requires { (length a.now ≡ 912) × (length b.now ≡ 912) × (length e.old ≡ 464) }
+fn fill_parts(a: &[u8; 912], b: &[u8; 912], flags: u8, e: &mut [u8])
+    requires { length e.old ≡ 464 }
     ensures { e.new ≡ four_of_twice a.now b.now flags }
 {
     fill(0, a, b, flags, &mut e[0..116]);
@@ -90,15 +87,10 @@ pub fn gather(bursts: &[u8], c: &mut [u8])
     requires { (length bursts.now ≡ 928) × (length c.old ≡ 456) }
     ensures { c.new ≡ tab 456 (placed_in bursts.now) }
 {
-    let at = place_rows();
-    let mut row = 0;
-    while row < 57 {
-        let mut x = 0;
-        while x < 8 {
-            c[8 * row + x] = bursts[at[row][x] as usize];
-            x += 1;
+    for (row, places) in place_rows().iter().enumerate() {
+        for (x, place) in places.iter().enumerate() {
+            c[8 * row + x] = bursts[usize::from(*place)];
         }
-        row += 1;
     }
 }
 

@@ -125,7 +125,7 @@ const BITS: [[u16; 2]; 58] = [
     [392, 164],
 ];
 
-// Each table whole, made in a function of its own: so its rows stay out of the proof of the loop that reads them.
+// Each table whole, made in a function of its own: so its rows stay out of the proof of the loop that reads them; two functions, since each promises its own table.
 pub(crate) fn place_rows() -> [[u16; 8]; 57]
     ensures { result ≡ places }
 {

@@ -8,6 +8,7 @@ ghost use Rattle.order.specs.Order.{fetched};
 ghost use Rattle.preliminary.specs.Stage.{crc_good, crc_p, efr_d, efr_w, s_of, w_of};
 ghost use Rattle.tables.specs.Tables.{important};
 
+// s is a slice whose length a clause has, as `arrange` takes it, which is public (docs/CONTRACTS.md): an array would be tested for once more.
 // b(1)..b(65), the most important bits of s.
 fn fetch_important(s: &[u8], b: &mut [u8])
     requires { (length s.now ≡ 244) × (length b.old ≡ 65) }
@@ -18,12 +19,12 @@ fn fetch_important(s: &[u8], b: &mut [u8])
 }
 
 // What the CRC divides: b(1)..b(65), and eight bits behind them.
-fn fill_word(s: &[u8], behind: &[u8], word: &mut [u8])
-    requires { (length s.now ≡ 244) × (length behind.now ≡ 8) × (length word.old ≡ 73) }
+fn fill_word(s: &[u8], behind: &[u8], word: &mut [u8; 73])
+    requires { (length s.now ≡ 244) × (length behind.now ≡ 8) }
     ensures { word.new ≡ fetched important s.now ++ behind.now }
 {
     fetch_important(s, &mut word[0..65]);
-    bits::copy(behind, &mut word[65..73]);
+    word[65..73].copy_from_slice(behind);
 }
 
 // p(1)..p(8): what b(1)..b(65) and eight zeros leave; so b(1)..b(65) and p(1)..p(8) leave 0.
@@ -43,9 +44,8 @@ fn put_part(part: &[u8], repeated: u8, w: &mut [u8])
     ensures { w.new ≡ part.now ++ replicate 2 repeated }
 {
     let n = part.len();
-    let m = w.len();
-    bits::copy(part, &mut w[0..n]);
-    bits::fill(repeated, &mut w[n..m]);
+    w[..n].copy_from_slice(part);
+    w[n..].fill(repeated);
 }
 
 // w(1)..w(232): s(1)..s(224), with s(70), s(120), s(173) and s(223) each twice more.
@@ -60,12 +60,12 @@ fn repeat_bits(s: &[u8], w: &mut [u8])
 }
 
 // w(1)..w(260): those, s(225)..s(244), and the CRC.
-fn fill_w(s: &[u8], w: &mut [u8])
-    requires { (Bits s.now) × (length s.now ≡ 244) × (length w.old ≡ 260) }
+fn fill_w(s: &[u8], w: &mut [u8; 260])
+    requires { (Bits s.now) × (length s.now ≡ 244) }
     ensures { w.new ≡ efr_w s.now }
 {
     repeat_bits(s, &mut w[0..232]);
-    bits::copy(&s[224..244], &mut w[232..252]);
+    w[232..252].copy_from_slice(&s[224..244]);
     put_crc(s, &mut w[252..260]);
 }
 
@@ -81,8 +81,8 @@ pub fn arrange(s: &[u8], d: &mut [u8])
 }
 
 // w out of d.
-fn put_back(d: &[u8], w: &mut [u8])
-    requires { (length d.now ≡ 260) × (length w.old ≡ 260) }
+fn put_back(d: &[u8], w: &mut [u8; 260])
+    requires { length d.now ≡ 260 }
     ensures { w.new ≡ w_of d.now }
 {
     let table = tables::ordering();
@@ -90,20 +90,20 @@ fn put_back(d: &[u8], w: &mut [u8])
 }
 
 // s out of w: the repeated bits from their first places, their copies are not read.
-fn read_s(w: &[u8], s: &mut [u8])
-    requires { (length w.now ≡ 260) × (length s.old ≡ 244) }
+fn read_s(w: &[u8; 260], s: &mut [u8])
+    requires { length s.old ≡ 244 }
     ensures { s.new ≡ s_of w.now }
 {
-    bits::copy(&w[0..71], &mut s[0..71]);
-    bits::copy(&w[73..123], &mut s[71..121]);
-    bits::copy(&w[125..178], &mut s[121..174]);
-    bits::copy(&w[180..230], &mut s[174..224]);
-    bits::copy(&w[232..252], &mut s[224..244]);
+    s[0..71].copy_from_slice(&w[0..71]);
+    s[71..121].copy_from_slice(&w[73..123]);
+    s[121..174].copy_from_slice(&w[125..178]);
+    s[174..224].copy_from_slice(&w[180..230]);
+    s[224..244].copy_from_slice(&w[232..252]);
 }
 
 // Does division leave 0 of b(1)..b(65) and w(253)..w(260)?
-fn is_good(s: &[u8], w: &[u8]) -> bool
-    requires { (Bits w.now) × (length w.now ≡ 260) × (s.now ≡ s_of w.now) }
+fn is_good(s: &[u8], w: &[u8; 260]) -> bool
+    requires { (Bits w.now) × (s.now ≡ s_of w.now) }
     ensures { result ≡ crc_good w.now }
 {
     let mut word = [0u8; 73];

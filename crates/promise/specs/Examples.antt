@@ -11,7 +11,7 @@ use Rattle.register.specs.Register.{from, bit, way, best, choice, walk}
 use Rattle.trellis.specs.Lost.{among, without}
 use Rattle.trellis.specs.Nearest.{pair_cost, row_at, nearest, nearest_count}
 use Rattle.places.specs.Places.{hl, place_at, bit_at, flag_in, cell, burst, four, flags_of}
-use Rattle.coder.specs.Blocks.{speech_p, speech_uat, speech_u, speech_block, control_u, control_block, colour, access_u, access_burst, sch_u}
+use Rattle.coder.specs.Blocks.{speech_p, speech_u_at, speech_u, speech_block, control_u, control_block, colour, access_u, access_burst, sch_u}
 use Rattle.coder.specs.Entries.{judged, entry, speech_sent, control_sent, access_sent}
 use Rattle.coder.specs.Examples.{ones_from, Example, is, all_hold}
 use Rattle.stream.specs.Sending.{block_of, fresh_sender, send_judged, send_told, sent_bursts, sent_next, send_answer, end_judged, end_told, end_bursts, end_answer, afterwards}
@@ -106,5 +106,5 @@ table =
     ∷ []
 
 pub examples : all_hold table ≡ true
-unfolding all_hold table tab tab_from add zeros ones digits value largest none_over is_missing occurs product lower divide remainder parity speech_g control_g access_g sch_g back first second coded_at coded pair_of from bit way best choice walk differ pair_cost row_at nearest nearest_count place_at bit_at flag_in cell burst four flags_of speech_p speech_uat speech_u speech_block control_u control_block colour access_u access_burst sch_u judged entry speech_sent control_sent access_sent tells sent_or block_of fresh_sender send_judged send_told sent_bursts sent_next send_answer end_judged end_told end_bursts end_answer afterwards send_all made among without control_taps is_tap fed_back from_below cell_at clocked clocked_in
+unfolding all_hold table tab tab_from add zeros ones digits value largest none_over is_missing occurs product lower divide remainder parity speech_g control_g access_g sch_g back first second coded_at coded pair_of from bit way best choice walk differ pair_cost row_at nearest nearest_count place_at bit_at flag_in cell burst four flags_of speech_p speech_u_at speech_u speech_block control_u control_block colour access_u access_burst sch_u judged entry speech_sent control_sent access_sent tells sent_or block_of fresh_sender send_judged send_told sent_bursts sent_next send_answer end_judged end_told end_bursts end_answer afterwards send_all made among without control_taps is_tap fed_back from_below cell_at clocked clocked_in
 examples = refl

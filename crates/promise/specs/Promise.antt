@@ -1,18 +1,16 @@
 -- Demand 3, for streams, over the definitions that the contracts of `stream` cite. Proved in proofs/laws/Promise.
-use Rattle.std.specs.Prelude.{true, List, [], ◌∷◌, ◌++◌, ◌≡◌, ℕ, zero, suc, ◌+◌, ◌*◌, ◌/◌, ◌%◌, ◌≤◌, ◌<◌, ltb, length, get_or, take, drop}
-use Rattle.answers.specs.declared.Maybe.TheVariants.{None, Some}
+use Rattle.std.specs.Prelude.{true, List, [], ◌∷◌, ◌++◌, ◌≡◌, ℕ, zero, suc, ◌+◌, ◌*◌, ◌/◌, ◌%◌, ◌≤◌, ◌<◌, ltb, length, get_or, take, drop, None, Some, Ok}
 use Rattle.answers.specs.Answers.{Answer, Meets, returned, of_told}
 use Rattle.bits.specs.Bits.{Bits, Symbols, given_bits, missing, pick, tab, total}
 use Rattle.burst.specs.Held.{saying, sayers}
 use Rattle.burst.specs.Numbers.{first_burst}
 use Rattle.places.specs.Places.{e_at, place_at, hl, hu}
 use Rattle.trellis.specs.Nearest.{disagreements}
-use Rattle.chart.specs.Answers.{values, of_taken}
+use Rattle.chart.specs.Answers.{Take, values, of_taken}
 use Rattle.kinds.specs.Kinds.{vote, by_kind}
 use Rattle.stream.specs.Receiving.{fresh_receiver, take_answer}
 use Rattle.kinds.specs.Says.{BlockSays}
 use Rattle.stream.specs.Sending.{is_facch, is_block, fresh_sender, send_answer, end_answer}
-use Rattle.chart.specs.declared.Taken.{Taken}
 use Rattle.chart.specs.declared.Taken.TheVariants.{Waiting}
 use Rattle.chart.specs.declared.Kind.{Kind}
 use Rattle.chart.specs.declared.Kind.TheVariants as kind
@@ -147,18 +145,18 @@ IdleHalves =
 abbrev pub flags_that : ℕ → List ℕ → ℕ → ℕ
 flags_that b rx n = sayers b (λ i. get_or (block_flags rx n) i 0)
 
-unfoldable pub answer_for : List ℕ → ℕ → List ℕ → Answer Taken
+unfoldable pub answer_for : List ℕ → ℕ → List ℕ → Answer Take
 answer_for rx n out = by_kind (vote (flags_that 1 rx n) (flags_that 0 rx n)) n (block_bits rx n) out
 
 -- what is told at burst b, and what the buffer then holds, is the answer a
-abbrev pub Answers : List ℕ → (ℕ → List ℕ) → ℕ → Answer Taken → Type 0
+abbrev pub Answers : List ℕ → (ℕ → List ℕ) → ℕ → Answer Take → Type 0
 Answers rx out b a = Meets a (taken_at rx out b).result.told (taken_at rx out b).left
 
 abbrev pub Locality : Type 0
 Locality =
     (M : ℕ) → M ≤ 65536 → (rx : List ℕ) (out : ℕ → List ℕ) → Arrives M rx out
     → ((n : ℕ) → 4 * n + 7 < M → Answers rx out (4 * n + 7) (answer_for rx n (out (4 * n + 7))))
-    × ((b : ℕ) → b < M → ((n : ℕ) → b ≡ 4 * n + 7 → ⊥) → Answers rx out b (record { result = Waiting; left = out b }))
+    × ((b : ℕ) → b < M → ((n : ℕ) → b ≡ 4 * n + 7 → ⊥) → Answers rx out b (record { result = Ok Waiting; left = out b }))
 
 -- DEMAND 2 IN STREAMS: whatever arrives, burst 4n+7 is answered by how many of block n's own flags are 1 and how many are 0, and as that kind by THE
 -- nearest block of its own 456 bits, in 01's numbers and values

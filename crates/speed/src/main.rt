@@ -2,25 +2,23 @@
 // that the last call told is written; what an entry must tell is tested elsewhere.
 #![tactic(auto)]
 
-mod blocks;
-mod enhanced;
+mod calls;
 mod hubs;
 mod marked;
 mod named;
 mod streams;
+mod told;
 
-use text::{Span, digit, put_number, same, take_line, write_line};
+use calls::{decode, encode};
+use marked::mark;
+use marking::Block;
+use streams::{send, take};
+use text::{digit, put_number, take_line, write_line};
 
 fn main(rt: HostRuntime) {
     let mut chunk = [0u8; 4096];
     let mut line = [0u8; 80];
-    let taken = take_line(
-        &rt,
-        &mut rt.stdin(),
-        &mut chunk,
-        Span { at: 0, end: 0 },
-        &mut line,
-    );
+    let taken = take_line(&rt, &mut rt.stdin(), &mut chunk, 0..0, &mut line);
     let kept = taken.kept;
     run(&rt, &line[0..kept]);
 }
@@ -38,115 +36,55 @@ fn run(rt: &HostRuntime, line: &[u8]) {
     write_line(rt, &mut rt.stdout(), &mut out, n);
 }
 
-// The entry of a name, called so many times.
+// The entry of a name, called so many times; 65535 is no entry's.
 fn call(name: &[u8], calls: u8) -> u32 {
-    if same(name, b"send-speech") {
-        return streams::send_speech(calls);
+    match name {
+        b"speech-encode" => encode::<260, 456, _, _>(calls, coder::send_speech),
+        b"speech-decode" => decode::<260, 456, _, _, _, _>(
+            calls,
+            coder::send_speech,
+            coder::receive_speech,
+        ),
+        b"control-encode" => encode::<184, 456, _, _>(calls, |d, c| desk::desk_send_control(d, c)),
+        b"control-decode" => decode::<184, 456, _, _, _, _>(
+            calls,
+            |d, c| desk::desk_send_control(d, c),
+            coder::receive_control,
+        ),
+        b"sacch-encode" => encode::<184, 464, _, _>(calls, coder::send_sacch),
+        b"sacch-decode" => decode::<184, 464, _, _, _, _>(
+            calls,
+            coder::send_sacch,
+            coder::receive_sacch,
+        ),
+        b"access-encode" => encode::<8, 36, _, _>(calls, |d, e| desk::desk_send_access(7, d, e)),
+        b"access-decode" => decode::<8, 36, _, _, _, _>(
+            calls,
+            |d, e| desk::desk_send_access(7, d, e),
+            |e, d| desk::desk_receive_access(7, e, d),
+        ),
+        b"access-whose" => named::received(calls, coder::whose_access),
+        b"access-any" => named::any_access(calls),
+        b"sch-encode" => encode::<25, 78, _, _>(calls, coder::send_sch),
+        b"sch-decode" => decode::<25, 78, _, _, _, _>(calls, coder::send_sch, coder::receive_sch),
+        b"efr-encode" => encode::<244, 456, _, _>(calls, efr::send_efr),
+        b"efr-decode" => decode::<244, 456, _, _, _, _>(calls, efr::send_efr, efr::receive_efr),
+        b"mark-speech" => mark::<456, 189>(calls, Block::Speech),
+        b"mark-control" => mark::<456, 228>(calls, Block::Control),
+        b"mark-access" => mark::<36, 18>(calls, Block::Access),
+        b"mark-sch" => mark::<78, 39>(calls, Block::Sch),
+        b"hub-enrol" => hubs::enrol(calls),
+        b"hub-remove" => hubs::remove(calls),
+        // where the identity stands that a burst is for
+        b"hub-hear-first" => hubs::hear(7, calls),
+        b"hub-hear-last" => hubs::hear(42, calls),
+        b"hub-hear-none" => hubs::hear(8, calls),
+        b"send-speech" => send::<260>(calls),
+        b"send-facch" => send::<184>(calls),
+        b"take-speech" => take::<260>(calls, 0, false),
+        b"take-facch" => take::<184>(calls, 1, false),
+        b"take-tie" => take::<260>(calls, 1, false),
+        b"take-charted" => take::<260>(calls, 0, true),
+        _ => 65535,
     }
-    if same(name, b"send-facch") {
-        return streams::send_facch(calls);
-    }
-    if same(name, b"take-speech") {
-        return streams::take_speech(calls, 0, false);
-    }
-    if same(name, b"take-facch") {
-        return streams::take_facch(calls);
-    }
-    if same(name, b"take-tie") {
-        return streams::take_speech(calls, 1, false);
-    }
-    if same(name, b"take-charted") {
-        return streams::take_speech(calls, 0, true);
-    }
-    if name.len() > 4 && same(&name[0..4], b"hub-") {
-        return call_hub(&name[4..], calls);
-    }
-    if name.len() > 5 && same(&name[0..5], b"mark-") {
-        return call_mark(&name[5..], calls);
-    }
-    call_block(name, calls)
-}
-
-// A call of the hub, and where the identity stands that a burst is for.
-fn call_hub(name: &[u8], calls: u8) -> u32 {
-    if same(name, b"enrol") {
-        return hubs::enrol(calls);
-    }
-    if same(name, b"remove") {
-        return hubs::remove(calls);
-    }
-    if same(name, b"hear-first") {
-        return hubs::hear(7, calls);
-    }
-    if same(name, b"hear-last") {
-        return hubs::hear(42, calls);
-    }
-    if same(name, b"hear-none") {
-        return hubs::hear(8, calls);
-    }
-    65535
-}
-
-// The mark of a channel's block.
-fn call_mark(channel: &[u8], calls: u8) -> u32 {
-    if same(channel, b"speech") {
-        return marked::speech(calls);
-    }
-    if same(channel, b"control") {
-        return marked::control(calls);
-    }
-    if same(channel, b"access") {
-        return marked::access(calls);
-    }
-    if same(channel, b"sch") {
-        return marked::sch(calls);
-    }
-    65535
-}
-
-// An entry of a block.
-fn call_block(name: &[u8], calls: u8) -> u32 {
-    if same(name, b"speech-encode") {
-        return blocks::speech(true, calls);
-    }
-    if same(name, b"speech-decode") {
-        return blocks::speech(false, calls);
-    }
-    if same(name, b"control-encode") {
-        return blocks::control(true, calls);
-    }
-    if same(name, b"control-decode") {
-        return blocks::control(false, calls);
-    }
-    if same(name, b"sacch-encode") {
-        return blocks::sacch(true, calls);
-    }
-    if same(name, b"sacch-decode") {
-        return blocks::sacch(false, calls);
-    }
-    if same(name, b"access-encode") {
-        return blocks::access(true, calls);
-    }
-    if same(name, b"access-decode") {
-        return blocks::access(false, calls);
-    }
-    if same(name, b"access-whose") {
-        return named::access(calls);
-    }
-    if same(name, b"access-any") {
-        return named::any_access(calls);
-    }
-    if same(name, b"sch-encode") {
-        return blocks::sch(true, calls);
-    }
-    if same(name, b"sch-decode") {
-        return blocks::sch(false, calls);
-    }
-    if same(name, b"efr-encode") {
-        return enhanced::encode(calls);
-    }
-    if same(name, b"efr-decode") {
-        return enhanced::decode(calls);
-    }
-    65535
 }

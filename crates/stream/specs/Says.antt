@@ -1,19 +1,16 @@
 -- What send, end and take answer, in 01's own numbers and values, for every value of a stream: the first refusal that applies, with nothing
 -- besides it and all as before; what a call that is done returns, writes and hands back. Proved in proofs/laws/Says.
-use Rattle.std.specs.Prelude.{true, false, List, ◌≡◌, ℕ, ◌+◌, ◌*◌, ◌≤◌, ◌<◌, length}
+use Rattle.std.specs.Prelude.{true, false, List, ◌≡◌, ℕ, ◌+◌, ◌*◌, ◌≤◌, ◌<◌, length, Option, None, Some, Ok}
 use Rattle.bits.specs.Bits.{Bits, Symbols, total}
 use Rattle.answers.specs.Answers.{Answer, returned, of_told}
-use Rattle.answers.specs.declared.Maybe.{Maybe}
-use Rattle.answers.specs.declared.Maybe.TheVariants.{None, Some}
 use Rattle.burst.specs.Held.{saying, held_flag_at, held_block}
 use Rattle.burst.specs.Ring.{kept}
 use Rattle.kinds.specs.Says.{BlockSays, BothBad}
-use Rattle.chart.specs.Answers.{values, of_taken}
+use Rattle.chart.specs.Answers.{Take, values, of_taken}
 use Rattle.stream.specs.Receiving.{fresh_receiver, taken_next, take_answer}
 use Rattle.stream.specs.Sending.{fresh_sender, is_block, sent_bursts, sent_next, send_answer, end_bursts, end_next, end_answer}
 use Rattle.chart.specs.Says.{said}
 use Rattle.chart.specs.Totals.{four, more}
-use Rattle.chart.specs.declared.Taken.{Taken}
 use Rattle.chart.specs.declared.Taken.TheVariants.{Waiting}
 use Rattle.chart.specs.declared.Kind.TheVariants.{Neither}
 use Rattle.chart.specs.declared.Values.{Values}
@@ -23,7 +20,7 @@ use Rattle.stream.specs.declared.sender.Sender.{Sender}
 use Rattle.stream.specs.declared.sender.Sent.{Sent}
 
 -- ---- send and end: the number, if one is given, and nothing besides; what the buffer then holds; the next stream
-abbrev pub SentReturns : Answer Sent → Maybe → List ℕ → Sender → Type 0
+abbrev pub SentReturns : Answer Sent → Option ℕ → List ℕ → Sender → Type 0
 SentReturns a number left next = (of_told a.result.told ≡ returned number None) × (a.left ≡ left) × (a.result.next ≡ next)
 
 -- nothing is sent, and the stream is not ended; nothing is taken
@@ -92,11 +89,11 @@ pub record TakeSays (s : Receiver) (b : ℕ) (e d : List ℕ) : Type 0 where
   pub two : length e ≡ 116 → length d ≡ 260 → (Symbols e → ⊥) → TakeReturns (take_answer s b e d) (refuses 2) d s
   pub five : length e ≡ 116 → length d ≡ 260 → Symbols e → 65536 ≤ s.next.0 → TakeReturns (take_answer s b e d) (refuses 5) d s
   pub four : length e ≡ 116 → length d ≡ 260 → Symbols e → s.next.0 < 65536 → (b ≡ s.next.0 → ⊥) → TakeReturns (take_answer s b e d) (refuses 4) d s
-  pub waiting : Takeable s b e d → ((n : ℕ) → b ≡ 4 * n + 7 → ⊥) → TakeReturns (take_answer s b e d) (values None Neither None None) d (taken_next s e Waiting)
+  pub waiting : Takeable s b e d → ((n : ℕ) → b ≡ 4 * n + 7 → ⊥) → TakeReturns (take_answer s b e d) (values None Neither None None) d (taken_next s e (Ok Waiting))
   pub block : Takeable s b e d → (n : ℕ) → b ≡ 4 * n + 7
       → BlockSays (λ v left. TakeReturns (take_answer s b e d) v left (taken_next s e (take_answer s b e d).result.told)) (flags_saying 1 (kept s.held b e) n) (flags_saying 0 (kept s.held b e) n) n (held_block (kept s.held b e) n) d
-  pub counts : (t : Taken) → (taken_next s e t).next.0 ≡ s.next.0 + 1
-  pub totals : (t : Taken) → (taken_next s e t).totals ≡ more s.totals (said (of_taken t))
+  pub counts : (t : Take) → (taken_next s e t).next.0 ≡ s.next.0 + 1
+  pub totals : (t : Take) → (taken_next s e t).totals ≡ more s.totals (said (of_taken t))
   pub only : (take_answer s b e d).result.next.next.0 ≡ s.next.0 + 1 → Takeable s b e d
 
 -- ---- 02, M-101: 9 is given in no other case than this: the burst is taken and ends block n, of whose flags as many are 1 as are 0, and its coded bits are found bad

@@ -1,10 +1,8 @@
 -- The sending stream: what send and end answer, of the stream, the block and what the lent buffer held before.
-use Rattle.std.specs.Prelude.{Bool, true, false, List, ℕ, ◌+◌, eqb, leb, length}
+use Rattle.std.specs.Prelude.{Bool, true, false, List, ℕ, ◌+◌, eqb, leb, length, Ok, Err}
 use Rattle.bits.specs.Bits.{pick, both, none_over, zeros}
-use Rattle.answers.specs.Answers.{Answer}
+use Rattle.answers.specs.Answers.{Answer, Told}
 use Rattle.answers.specs.declared.Refusal.TheVariants.{Length, NotBits, Full, NothingSent, Ended}
-use Rattle.answers.specs.declared.Told.{Told}
-use Rattle.answers.specs.declared.Told.TheVariants.{Done, Refused}
 use Rattle.places.specs.Places.{four, flags_of}
 use Rattle.coder.specs.Blocks.{speech_block, control_block}
 use Rattle.stream.specs.declared.sender.Sender.{Sender}
@@ -30,11 +28,11 @@ fresh_sender = record { sent = record { 0 = 0 }; ended = false; facch = false; l
 
 -- ---- send. 01: where several apply, 1, 2, 7, 5; 16,383 blocks may be sent
 unfoldable pub send_judged : Bool → Bool → Bool → Bool → Told
-send_judged false bits ended full = Refused Length
-send_judged true false ended full = Refused NotBits
-send_judged true true true full = Refused Ended
-send_judged true true false true = Refused Full
-send_judged true true false false = Done
+send_judged false bits ended full = Err Length
+send_judged true false ended full = Err NotBits
+send_judged true true true full = Err Ended
+send_judged true true false true = Err Full
+send_judged true true false false = Ok tt
 
 unfoldable pub send_told : Sender → List ℕ → List ℕ → Told
 send_told s d e = send_judged (both (is_block (length d)) (eqb (length e) 464)) (none_over 1 d) s.ended (leb 16383 s.sent.0)
@@ -48,18 +46,18 @@ sent_next s d = record { sent = record { 0 = s.sent.0 + 1 }; ended = s.ended; fa
 
 -- done: the four bursts and the next stream; refused: all as before
 unfoldable pub afterwards : Told → List ℕ → Sender → List ℕ → Sender → Answer Sent
-afterwards Done bursts next e s = record { result = record { told = Done; next = next }; left = bursts }
-afterwards (Refused r) bursts next e s = record { result = record { told = Refused r; next = s }; left = e }
+afterwards (Ok tt) bursts next e s = record { result = record { told = (Ok tt); next = next }; left = bursts }
+afterwards (Err r) bursts next e s = record { result = record { told = Err r; next = s }; left = e }
 
 unfoldable pub send_answer : Sender → List ℕ → List ℕ → Answer Sent
 send_answer s d e = afterwards (send_told s d e) (sent_bursts s d) (sent_next s d) e s
 
 -- ---- end. 01: where several apply, 1, 7, 6; end is allowed at 16,383 blocks
 unfoldable pub end_judged : Bool → Bool → Bool → Told
-end_judged false ended nothing = Refused Length
-end_judged true true nothing = Refused Ended
-end_judged true false true = Refused NothingSent
-end_judged true false false = Done
+end_judged false ended nothing = Err Length
+end_judged true true nothing = Err Ended
+end_judged true false true = Err NothingSent
+end_judged true false false = Ok tt
 
 unfoldable pub end_told : Sender → List ℕ → Told
 end_told s e = end_judged (eqb (length e) 464) s.ended (eqb s.sent.0 0)

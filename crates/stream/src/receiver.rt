@@ -1,12 +1,11 @@
 // The receiver: it takes bursts one by one and holds the last eight; burst 4n+7 brings the answer for block n (01, Bursts and streams).
-ghost use Rattle.std.specs.Prelude.{◌≡◌, ◌<◌, eqb, leb, length};
+ghost use Rattle.std.specs.Prelude.{◌≡◌, ◌<◌, length};
 ghost use Rattle.answers.specs.Answers.{Meets};
-ghost use Rattle.bits.specs.Bits.{none_over, both};
-ghost use Rattle.stream.specs.Receiving.{fresh_receiver, take_judged, block_answer, burst_answer, take_answer};
+ghost use Rattle.stream.specs.Receiving.{fresh_receiver, take_told, block_answer, burst_answer, take_answer};
 
-use answers::{Refusal, Told};
-use burst::{BlockNumber, BurstNumber, Ending};
-use chart::{Taken, Totals};
+use answers::Refusal;
+use burst::{BlockNumber, BurstNumber};
+use chart::{Taken, Totals, Untaken};
 
 // The number of the next burst; the last eight bursts, of which burst B stands at 116 (B mod 8); and the chart's totals (02, M-100).
 #[derive(Clone, Copy)]
@@ -19,34 +18,13 @@ pub struct Receiver {
 // What is said of a take, and the next stream.
 #[derive(Drop)]
 pub struct Received {
-    pub told: Taken,
+    pub told: Result<Taken, Untaken>,
     pub next: Receiver,
 }
 
-// The first refusal that applies, or none: 1, 2, 5, 4.
-fn judge_take(e: &[u8], out: usize, next: BurstNumber, b: BurstNumber) -> Told
-    ensures { result ≡ take_judged (both (eqb (length e.now) 116) (eqb out 260)) (none_over 2 e.now) (leb 65536 next.0) (eqb b.0 next.0) }
-{
-    if e.len() != 116 {
-        return Told::Refused(Refusal::Length);
-    }
-    if out != 260 {
-        return Told::Refused(Refusal::Length);
-    }
-    if !bits::none_over(e, bits::RECEIVED) {
-        return Told::Refused(Refusal::NotBits);
-    }
-    if next.0 >= 65536 {
-        return Told::Refused(Refusal::Full);
-    }
-    if b.0 != next.0 {
-        return Told::Refused(Refusal::OutOfTurn);
-    }
-    Told::Done
-}
-
 // Block n, of the kind that its flags say.
-fn receive_block(n: BlockNumber, held: &[u8], d: &mut [u8]) -> Taken
+#[tactic(auto, using(crate::proofs::laws::Receiving::held_given), unfolding(crate::specs::Receiving::block_answer))]
+fn receive_block(n: BlockNumber, held: &[u8], d: &mut [u8]) -> Result<Taken, Untaken>
     requires { (length held.now ≡ 928) × (length d.old ≡ 260) }
     ensures { Meets (block_answer held.now n.0 d.old) result d.new }
 {
@@ -58,30 +36,27 @@ fn receive_block(n: BlockNumber, held: &[u8], d: &mut [u8]) -> Taken
 }
 
 // What burst B brings: the answer for the block that it ends, else nothing yet.
-fn answer(b: BurstNumber, held: &[u8], d: &mut [u8]) -> Taken
+#[tactic(auto, unfolding(crate::specs::Receiving::burst_answer, crate::specs::Receiving::at_ending))]
+fn answer(b: BurstNumber, held: &[u8], d: &mut [u8]) -> Result<Taken, Untaken>
     requires { (b.0 < 65536) × (length held.now ≡ 928) × (length d.old ≡ 260) }
     ensures { Meets (burst_answer held.now b.0 d.old) result d.new }
 {
     match burst::block_ended(b) {
-        Ending::Block(n) => receive_block(n, held, d),
-        Ending::Nothing => Taken::Waiting,
+        Some(n) => receive_block(n, held, d),
+        None => Ok(Taken::Waiting),
     }
 }
 
 impl Receiver {
     // A stream of which nothing is taken.
+    #[tactic(auto, unfolding(crate::specs::Receiving::fresh_receiver, bits::specs::Bits::zeros))]
     pub fn fresh() -> Self
         ensures { result ≡ fresh_receiver }
     {
         Self {
             next: BurstNumber(0),
             held: [0; 928],
-            totals: Totals {
-                speech: 0,
-                facch: 0,
-                refused: 0,
-                counts: 0,
-            },
+            totals: Totals::default(),
         }
     }
 
@@ -89,25 +64,40 @@ impl Receiver {
     pub fn take(mut self, b: BurstNumber, e: &[u8], d: &mut [u8]) -> Received
         ensures { Meets (take_answer self b.0 e.now d.old) result d.new }
     {
-        let told = judge_take(e, d.len(), self.next, b);
-        match told {
-            Told::Refused(why) => Received {
-                told: Taken::Refused(why),
-                next: self,
-            },
-            Told::Done => {
-                let mut held = self.held;
-                burst::hold(b, e, &mut held);
-                let told = answer(b, &held, d);
-                let next = burst::next_burst(b);
-                let before = self.totals;
-                let totals = chart::counted(before, told);
-                self.next = next;
-                self.held = held;
-                self.totals = totals;
-                Received { told, next: self }
-            }
+        let told = self.try_take(b, e, d);
+        Received { told, next: self }
+    }
+
+    // The first refusal that applies, or none: 1, 2, 5, 4.
+    #[tactic(auto, unfolding(crate::specs::Receiving::take_told, crate::specs::Receiving::take_judged))]
+    fn judge_take(&self, b: BurstNumber, e: &[u8], d: &[u8]) -> Result<(), Refusal>
+        ensures { result ≡ take_told self.now b.0 e.now d.now }
+    {
+        if e.len() != 116 || d.len() != 260 {
+            return Err(Refusal::Length);
         }
+        if !bits::none_over(e, bits::RECEIVED) {
+            return Err(Refusal::NotBits);
+        }
+        if self.next.0 >= 65536 {
+            return Err(Refusal::Full);
+        }
+        if b.0 != self.next.0 {
+            return Err(Refusal::OutOfTurn);
+        }
+        Ok(())
+    }
+
+    // Where a take is refused, the stream stays as it was.
+    fn try_take(&mut self, b: BurstNumber, e: &[u8], d: &mut [u8]) -> Result<Taken, Untaken>
+        ensures { Meets (take_answer self.old b.0 e.now d.old) (record { told = result; next = self.new }) d.new }
+    {
+        self.judge_take(b, e, d)?;
+        burst::hold(b, e, &mut self.held);
+        let told = answer(b, &self.held, d);
+        self.next = burst::next_burst(b);
+        self.totals = self.totals.counted(told);
+        told
     }
 
     // The chart's totals: what all answers of this stream add up to.

@@ -1,15 +1,16 @@
 // The sender: block n begins in the bursts 4n to 4n+3, which it writes, and goes on in the four after them (01, Bursts and streams).
-ghost use Rattle.std.specs.Prelude.{◌≡◌, true, false, ◌≤◌, eqb, leb, length};
-ghost use Rattle.bits.specs.Bits.{Bits, none_over, both};
+ghost use Rattle.std.specs.Prelude.{◌≡◌, true, ◌≤◌, length};
+ghost use Rattle.bits.specs.Bits.{Bits};
 ghost use Rattle.answers.specs.Answers.{Meets};
 ghost use Rattle.places.specs.Places.{four, flags_of};
-ghost use Rattle.stream.specs.Sending.{fresh_sender, is_facch, is_block, block_of, flag_of, send_judged, end_judged, send_answer, end_answer};
+ghost use Rattle.stream.specs.Sending.{fresh_sender, is_facch, is_block, block_of, flag_of, send_told, end_told, send_answer, end_answer};
 ghost use Rattle.stream.specs.laws.Sending.{Codable};
 
-use answers::{Refusal, Told};
+use answers::Refusal;
 use burst::BlockNumber;
 
-// How many blocks are sent, whether the stream is ended, and the last block, which is still to go on, with its kind.
+// How many blocks are sent, whether the stream is ended, and the last block, which is still to go on, with its kind. That a block is FACCH and
+// that the stream is ended are flags here: the definitions (specs/Sending) and the theorems are over every value of a sender, and have them so.
 #[derive(Clone, Copy)]
 pub struct Sender {
     sent: BlockNumber,
@@ -21,7 +22,7 @@ pub struct Sender {
 // What is said of a send or an end, and the next stream.
 #[derive(Drop)]
 pub struct Sent {
-    pub told: Told,
+    pub told: Result<(), Refusal>,
     pub next: Sender,
 }
 
@@ -29,67 +30,19 @@ pub struct Sent {
 fn is_block(n: usize) -> bool
     ensures { result ≡ is_block n }
 {
-    if n == 260 {
-        return true;
-    }
-    n == 184
+    n == 260 || n == 184
 }
 
-// The first refusal that applies to a send, or none: 1, 2, 7, 5.
-fn judge_send(d: &[u8], out: usize, ended: bool, sent: BlockNumber) -> Told
-    ensures { result ≡ send_judged (both (is_block (length d.now)) (eqb out 464)) (none_over 1 d.now) ended (leb 16383 sent.0) }
-{
-    if !is_block(d.len()) {
-        return Told::Refused(Refusal::Length);
-    }
-    if out != 464 {
-        return Told::Refused(Refusal::Length);
-    }
-    if !bits::none_over(d, bits::SENT) {
-        return Told::Refused(Refusal::NotBits);
-    }
-    if ended {
-        return Told::Refused(Refusal::Ended);
-    }
-    if sent.0 >= 16383 {
-        return Told::Refused(Refusal::Full);
-    }
-    Told::Done
-}
-
-// The first refusal that applies to an end, or none: 1, 7, 6.
-fn judge_end(out: usize, ended: bool, sent: BlockNumber) -> Told
-    ensures { result ≡ end_judged (eqb out 464) ended (eqb sent.0 0) }
-{
-    if out != 464 {
-        return Told::Refused(Refusal::Length);
-    }
-    if ended {
-        return Told::Refused(Refusal::Ended);
-    }
-    if sent.0 == 0 {
-        return Told::Refused(Refusal::NothingSent);
-    }
-    Told::Done
-}
-
-// The coded bits of a block of either kind.
+// The coded bits of a block of either kind. No refusal applies.
 fn code(d: &[u8], c: &mut [u8])
     requires { (Bits d.now) × (is_block (length d.now) ≡ true) × (length c.old ≡ 456) }
     ensures { c.new ≡ block_of d.now }
 {
     if d.len() == 184 {
-        coder::send_control(d, c);
+        coder::send_control(d, c).unwrap()
     } else {
-        coder::send_speech(d, c);
+        coder::send_speech(d, c).unwrap()
     }
-}
-
-// The flag of a kind: 0 for speech, 1 for FACCH.
-fn flag(facch: bool) -> u8
-    ensures { (result ≡ flag_of facch) × (result ≤ 1) }
-{
-    if facch { 1 } else { 0 }
 }
 
 // Block d begins in four bursts, in which the last one, whose flag is q, goes on; what is left of d to send is its coded bits.
@@ -98,11 +51,17 @@ fn begin(d: &[u8], last: &[u8], q: u8, block: &mut [u8], e: &mut [u8])
     ensures { (block.new ≡ block_of d.now) × (e.new ≡ four (block_of d.now) last.now (flags_of (flag_of (is_facch (length d.now))) q)) }
 {
     code(d, block);
-    places::fill_four(block, last, places::flags_of(flag(d.len() == 184), q), e);
+    places::fill_four(
+        block,
+        last,
+        places::flags_of(u8::from(d.len() == 184), q),
+        e,
+    );
 }
 
 impl Sender {
     // A stream of which nothing is sent.
+    #[tactic(auto, unfolding(crate::specs::Sending::fresh_sender, bits::specs::Bits::zeros))]
     pub fn fresh() -> Self
         ensures { result ≡ fresh_sender }
     {
@@ -118,17 +77,7 @@ impl Sender {
     pub fn send(mut self, d: &[u8], e: &mut [u8]) -> Sent
         ensures { Meets (send_answer self d.now e.old) result e.new }
     {
-        let told = judge_send(d, e.len(), self.ended, self.sent);
-        if let Told::Done = told {
-            let last = self.last;
-            let mut block = [0u8; 456];
-            begin(d, &last, flag(self.facch), &mut block, e);
-            let sent = burst::next_block(self.sent);
-            self.sent = sent;
-            self.facch = d.len() == 184;
-            self.last = block;
-            return Sent { told, next: self };
-        }
+        let told = self.try_send(d, e);
         Sent { told, next: self }
     }
 
@@ -136,14 +85,73 @@ impl Sender {
     pub fn end(mut self, e: &mut [u8]) -> Sent
         ensures { Meets (end_answer self e.old) result e.new }
     {
-        let told = judge_end(e.len(), self.ended, self.sent);
-        if let Told::Done = told {
-            let nothing = [0u8; 456];
-            let last = self.last;
-            places::fill_four(&nothing, &last, places::flags_of(0, flag(self.facch)), e);
-            self.ended = true;
-            return Sent { told, next: self };
-        }
+        let told = self.try_end(e);
         Sent { told, next: self }
+    }
+
+    // The first refusal that applies to a send, or none: 1, 2, 7, 5.
+    #[tactic(auto, unfolding(crate::specs::Sending::send_told, crate::specs::Sending::send_judged))]
+    fn judge_send(&self, d: &[u8], e: &[u8]) -> Result<(), Refusal>
+        ensures { result ≡ send_told self.now d.now e.now }
+    {
+        if !is_block(d.len()) || e.len() != 464 {
+            return Err(Refusal::Length);
+        }
+        if !bits::none_over(d, bits::SENT) {
+            return Err(Refusal::NotBits);
+        }
+        if self.ended {
+            return Err(Refusal::Ended);
+        }
+        if self.sent.0 >= 16383 {
+            return Err(Refusal::Full);
+        }
+        Ok(())
+    }
+
+    // The first refusal that applies to an end, or none: 1, 7, 6.
+    #[tactic(auto, unfolding(crate::specs::Sending::end_told, crate::specs::Sending::end_judged))]
+    fn judge_end(&self, e: &[u8]) -> Result<(), Refusal>
+        ensures { result ≡ end_told self.now e.now }
+    {
+        if e.len() != 464 {
+            return Err(Refusal::Length);
+        }
+        if self.ended {
+            return Err(Refusal::Ended);
+        }
+        if self.sent.0 == 0 {
+            return Err(Refusal::NothingSent);
+        }
+        Ok(())
+    }
+
+    // Where a send is refused, the stream stays as it was.
+    fn try_send(&mut self, d: &[u8], e: &mut [u8]) -> Result<(), Refusal>
+        ensures { Meets (send_answer self.old d.now e.old) (record { told = result; next = self.new }) e.new }
+    {
+        self.judge_send(d, e)?;
+        let mut block = [0u8; 456];
+        begin(d, &self.last, u8::from(self.facch), &mut block, e);
+        self.sent = burst::next_block(self.sent);
+        self.facch = d.len() == 184;
+        self.last = block;
+        Ok(())
+    }
+
+    // The same of an end.
+    fn try_end(&mut self, e: &mut [u8]) -> Result<(), Refusal>
+        ensures { Meets (end_answer self.old e.old) (record { told = result; next = self.new }) e.new }
+    {
+        self.judge_end(e)?;
+        let nothing = [0u8; 456];
+        places::fill_four(
+            &nothing,
+            &self.last,
+            places::flags_of(0, u8::from(self.facch)),
+            e,
+        );
+        self.ended = true;
+        Ok(())
     }
 }

@@ -81,6 +81,7 @@ const ORDERING: [[u16; 5]; 52] = [
     [235, 238, 241, 244, 247],
 ];
 
+// Three functions that differ in a table: each promises the table that its definition has, so one for all would say less of each.
 // Each table whole, made in a function of its own: so its rows stay out of the proof of the loop that reads them.
 pub fn important() -> [[u16; 5]; 13]
     ensures { result ≡ important_rows }

@@ -6,18 +6,19 @@ ghost use Rattle.text.specs.Text.{put_at};
 use crate::read::digit;
 
 // Puts the digits of the octets into `out` from place `n` on, and gives the place after them.
+#[tactic(auto, using(crate::proofs::laws::Put::putting_all, crate::proofs::laws::Hexadecimal::length_hex))]
 pub fn put_octets(out: &mut [u8], n: usize, octets: &[u8]) -> usize
     requires { n + 2 * length octets.now ≤ length out.old }
     ensures { (result ≡ n + 2 * length octets.now) × (out.new ≡ put_at out.old n (hex_of octets.now)) }
 {
-    for i in 0..octets.len() {
-        let octet = octets[i];
+    for (i, octet) in octets.iter().enumerate() {
         out[n + 2 * i] = hex_character(octet / 16);
         out[n + 2 * i + 1] = hex_character(octet % 16);
     }
     n + 2 * octets.len()
 }
 
+#[tactic(auto, unfolding(crate::specs::Hexadecimal::hex_character))]
 fn hex_character(digit: u8) -> u8
     requires { digit ≤ 15 }
     ensures { result ≡ hex_character digit }
@@ -33,31 +34,22 @@ fn hex_character(digit: u8) -> u8
 pub fn is_hex(text: &[u8]) -> bool
     ensures { result ≡ is_hex text.now }
 {
-    if text.len() % 2 != 0 {
-        return false;
-    }
-    for i in 0..text.len() {
-        if hex_digit(text[i]) > 15 {
-            return false;
-        }
-    }
-    true
+    text.len() % 2 == 0 && text.iter().all(|c| hex_digit(*c) <= 15)
 }
 
-// A character that is no digit is 255; a capital letter is none.
+// A character that is no digit is 255, as `digit` and the definition have it; a capital letter is none.
+#[tactic(auto, unfolding(crate::specs::Hexadecimal::hex_digit, crate::specs::Text::digit_of))]
 fn hex_digit(character: u8) -> u8
     ensures { result ≡ hex_digit character }
 {
-    if character < b'a' {
-        return digit(character);
+    match character {
+        b'a'..=b'f' => character - b'a' + 10,
+        _ => digit(character),
     }
-    if character > b'f' {
-        return 255;
-    }
-    character - b'a' + 10
 }
 
 // The octets of a text, and how many there are.
+#[tactic(auto, using(crate::proofs::laws::Hexadecimal::hex_each, crate::proofs::laws::Put::putting_all, crate::proofs::laws::Hexadecimal::length_octets))]
 pub fn read_octets(text: &[u8], octets: &mut [u8]) -> usize
     requires { (is_hex text.now ≡ true) × (length text.now / 2 ≤ length octets.old) }
     ensures { (result ≡ length text.now / 2) × (octets.new ≡ put_at octets.old 0 (octets_of text.now)) }

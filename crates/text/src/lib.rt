@@ -8,6 +8,6 @@ mod put;
 mod read;
 
 pub use hex::{is_hex, put_octets, read_octets};
-pub use lines::{Span, Taken, take_line, write_line};
+pub use lines::{Taken, take_line, write_line};
 pub use put::{put_bits, put_byte, put_number, put_refused, put_word};
-pub use read::{digit, find, read_bits, same, without_mark, without_return};
+pub use read::{digit, find, read_bits, without_mark, without_return};

@@ -7,21 +7,15 @@ ghost use Rattle.text.specs.Within.{Within};
 use crate::put::put_byte;
 use crate::read::find;
 use std::io::{Eprint, ErrorKind, Read, Write};
-
-// The bytes of a chunk that are not yet taken: from at up to end.
-#[derive(Drop)]
-pub struct Span {
-    pub at: usize,
-    pub end: usize,
-}
+use std::ops::Range;
 
 // A line that was taken from the input.
 #[derive(Drop)]
 pub struct Taken {
     // how many of its bytes are kept
     pub kept: usize,
-    // what is left of the chunk
-    pub rest: Span,
+    // where the bytes of the chunk stand that are not yet taken
+    pub rest: Range<usize>,
     // whether a newline ended the line; if not, the input did
     pub more: bool,
 }
@@ -31,16 +25,15 @@ pub fn take_line<R: Read>(
     rt: &impl Eprint,
     input: &mut R,
     chunk: &mut [u8],
-    rest: Span,
+    rest: Range<usize>,
     line: &mut [u8],
 ) -> Taken
     requires { Within rest chunk.old }
     ensures { (result.kept ≤ length line.new) × Within result.rest chunk.new }
 {
     let mut taken = take_part(chunk, rest, line, 0);
-    // nothing says that the input ends, so the turns are counted down from a number that no run uses up
-    let mut turns = u64::MAX;
-    while turns > 0 {
+    // nothing says that the input ends, so the turns have an end that no run comes to
+    for _ in 0..u64::MAX {
         if taken.more {
             return taken;
         }
@@ -48,47 +41,44 @@ pub fn take_line<R: Read>(
         if next.end == 0 {
             return taken;
         }
-        let longer = take_part(chunk, next, line, taken.kept);
-        taken = longer;
-        turns -= 1;
+        taken = take_part(chunk, next, line, taken.kept);
     }
     taken
 }
 
 // Takes from the chunk up to the next newline, or all that is left of it.
-fn take_part(chunk: &[u8], rest: Span, line: &mut [u8], kept: usize) -> Taken
+fn take_part(chunk: &[u8], rest: Range<usize>, line: &mut [u8], kept: usize) -> Taken
     requires { Within rest chunk.now × (kept ≤ length line.old) }
     ensures { (result.kept ≤ length line.new) × Within result.rest chunk.now }
 {
-    let at = rest.at;
-    let end = rest.end;
-    let stop = find(&chunk[0..end], at, b'\n');
-    let whole = keep(line, kept, &chunk[at..stop]);
+    let Range { start, end } = rest;
+    let stop = find(&chunk[..end], start, b'\n');
+    let kept = keep(line, kept, &chunk[start..stop]);
     if stop < end {
         Taken {
-            kept: whole,
-            rest: Span { at: stop + 1, end },
+            kept,
+            rest: stop + 1..end,
             more: true,
         }
     } else {
         Taken {
-            kept: whole,
-            rest: Span { at: end, end },
+            kept,
+            rest: end..end,
             more: false,
         }
     }
 }
 
 // Reads the next chunk: nothing at the end of the input, or where it cannot be read, which is then said.
-fn next_chunk<R: Read>(rt: &impl Eprint, input: &mut R, chunk: &mut [u8]) -> Span
+fn next_chunk<R: Read>(rt: &impl Eprint, input: &mut R, chunk: &mut [u8]) -> Range<usize>
     ensures { Within result chunk.new }
 {
     match input.read(chunk) {
-        Ok(end) => Span { at: 0, end },
+        Ok(end) => 0..end,
         Err(_) => {
             // nobody is left to hear of it where this cannot be said
             let _ = eprintln!(rt; "the input could not be read");
-            Span { at: 0, end: 0 }
+            0..0
         }
     }
 }
@@ -98,17 +88,9 @@ fn keep(line: &mut [u8], kept: usize, more: &[u8]) -> usize
     requires { kept ≤ length line.old }
     ensures { result ≤ length line.new }
 {
-    let n = least(more.len(), line.len() - kept);
-    for i in 0..n {
-        line[kept + i] = more[i];
-    }
+    let n = more.len().min(line.len() - kept);
+    line[kept..kept + n].copy_from_slice(&more[..n]);
     kept + n
-}
-
-fn least(a: usize, b: usize) -> usize
-    ensures { (result ≤ a) × (result ≤ b) }
-{
-    if a < b { a } else { b }
 }
 
 // Writes the first n bytes of `out` and a newline, by one call, so that they are seen at once; false where they cannot be written, which is then

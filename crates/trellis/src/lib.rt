@@ -1,6 +1,7 @@
 // The nearest block (01, What the decoder answers): the row of sixteen path counts, the choices, the walk back.
 #![tactic(auto)]
 
+mod memory;
 mod search;
 mod steps;
 

@@ -7,13 +7,11 @@ ghost use Rattle.trellis.specs.laws.Steps.{cost_into, cost_table, step_at, chose
 use convolution::pair;
 
 // Does received r disagree with coded bit x? A missing bit, 2, disagrees with nothing (02, M-102).
+#[tactic(auto, unfolding(bits::specs::Bits::differ, bits::specs::Bits::is_missing))]
 pub fn apart(x: u8, r: u8) -> u16
     ensures { (result ≡ differ x r) × (result ≤ 1) }
 {
-    if r == 2 {
-        return 0;
-    }
-    if x == r { 0 } else { 1 }
+    u16::from(r != 2 && x != r)
 }
 
 // In how many places the pair of bit b in state s disagrees with the received pair.
@@ -78,16 +76,14 @@ pub fn all_costs() -> [[u16; 16]; 9]
 fn plus(a: u16, c: u16) -> u16
     ensures { result ≡ min (a + c) 65535 }
 {
-    if a < 65535 - c { a + c } else { 65535 }
+    a.saturating_add(c)
 }
 
 // The fewer of the two ways into a state: from count a at cost c, or from count b at cost d.
 fn join(a: u16, c: u16, b: u16, d: u16) -> u16
     ensures { result ≡ min (min (a + c) 65535) (min (b + d) 65535) }
 {
-    let p = plus(a, c);
-    let q = plus(b, d);
-    if q < p { q } else { p }
+    plus(a, c).min(plus(b, d))
 }
 
 // 1 where the second way is the cheaper one. On equal counts the first is kept, which has 0 at the first difference.
@@ -96,10 +92,11 @@ fn cheaper(a: u16, c: u16, b: u16, d: u16) -> u16
 {
     let p = plus(a, c);
     let q = plus(b, d);
-    if q < p { 1 } else { 0 }
+    u16::from(q < p)
 }
 
-// The row after one more received pair, whose costs are w: eight pairs of states, each of which goes to two.
+// The row after one more received pair, whose costs are w: eight pairs of states, each of which goes to two. The sixteen are written out, as docs/SPEED.md
+// counts them: vector code.
 pub fn step(row: [u16; 16], w: [u16; 16]) -> [u16; 16]
     ensures { result ≡ tab 16 (step_at row w) }
 {

@@ -1,12 +1,15 @@
-// The answer to a line: a word and what it says more, numbers and bits, any of which may be missing.
-use answers::{Maybe, Returned, Told};
+// The answer to a line: a word, what is wrong, numbers and bytes, any of which may be missing.
+ghost use Rattle.std.specs.Prelude.{[], ◌∷◌, ◌≡◌, ◌≤◌, length};
+
+use answers::{Refusal, Returned};
+use arrayvec::ArrayVec;
 use chart::{Kind, Totals, Values};
-use coder::{View, Whose};
+use coder::{Named, View};
 use hub::Said;
-use marking::{Fault, Mark};
+use marking::{Fault, No};
 
 // How the bytes that were written are said.
-#[derive(Drop)]
+#[derive(Clone, Copy)]
 pub enum Form {
     // each is a digit
     Digits,
@@ -16,214 +19,191 @@ pub enum Form {
     Parted,
 }
 
-// Both words are filled up with spaces. The first `count` of the numbers are said, and the first `bits` of the bytes that were written; where the
-// line lent the buffer itself, all of it is said, and that there is none.
+// Where bytes are said, it is so many of those that were written, in a form; of none it is said that there is none.
 #[derive(Drop)]
 pub struct Answer {
-    pub word: [u8; 8],
-    pub what: [u8; 8],
-    pub numbers: [u32; 16],
-    pub count: usize,
-    pub bits: usize,
-    pub form: Form,
-    pub lent: bool,
+    pub(crate) word: &'static [u8],
+    pub(crate) wrong: Option<Fault>,
+    pub(crate) numbers: ArrayVec<u32, 16>,
+    pub(crate) bytes: Option<(usize, Form)>,
+    ghost short: { length word.now ≤ 8 },
 }
-
-const NO_WORD: [u8; 8] = *b"        ";
-
-const REFUSED: [u8; 8] = *b"refused ";
 
 impl Answer {
     // A word alone.
-    pub fn new(word: [u8; 8]) -> Self {
+    fn new(word: &'static [u8]) -> Self
+        requires { length word.now ≤ 8 }
+        ensures { result.word.now ≡ word.now }
+    {
         Self {
             word,
-            what: NO_WORD,
-            numbers: [0; 16],
-            count: 0,
-            bits: 0,
-            form: Form::Digits,
-            lent: false,
+            wrong: None,
+            numbers: ArrayVec::new(),
+            bytes: None,
         }
     }
 
     // The answer to a line that asks for nothing.
     pub fn unknown() -> Self {
-        Self::new(*b"?       ")
+        Self::new(b"?")
     }
 
-    // One number more, where there is room.
-    fn with_number(mut self, number: u32) -> Self {
-        let at = self.count;
-        if at < 16 {
-            self.numbers[at] = number;
-            self.count = at + 1;
-        }
-        self
-    }
-
-    fn with_bits(mut self, bits: usize) -> Self {
-        self.bits = bits;
-        self
-    }
-
-    // A number that is returned.
-    fn with(self, returned: Maybe) -> Self {
-        match returned {
-            Maybe::None => self,
-            Maybe::Some(number) => self.with_number(number as u32),
-        }
+    // The answer where all begins anew.
+    pub fn fresh() -> Self
+        ensures { result.word.now ≡ 102 ∷ 114 ∷ 101 ∷ 115 ∷ 104 ∷ [] }
+    {
+        Self::new(b"fresh")
     }
 
     // The number of a refusal.
     fn refused(number: u16) -> Self {
-        Self::new(REFUSED).with_number(number as u32)
+        Self::new(b"refused").with_number(u32::from(number))
     }
 
+    // One number more, where there is room.
+    fn with_number(mut self, number: u32) -> Self {
+        let _ = self.numbers.try_push(number);
+        self
+    }
+
+    // A number that may be returned.
+    fn with(self, returned: Option<u16>) -> Self {
+        match returned {
+            Some(number) => self.with_number(u32::from(number)),
+            None => self,
+        }
+    }
+
+    // The first so many of the bytes that were written.
+    fn with_bytes(mut self, count: usize, form: Form) -> Self {
+        self.bytes = Some((count, form));
+        self
+    }
+
+    fn with_bits(self, count: usize) -> Self {
+        self.with_bytes(count, Form::Digits)
+    }
+
+    // This, of_said and of_frame are no From: they are told besides how many bytes are said.
     // What is returned of a send or of a block that is received: the count and the bits, or the refusal and what is returned besides.
     pub fn of_returned(returned: Returned, bits: usize) -> Self {
         let number = returned.number;
         let count = returned.count;
         match number {
-            Maybe::None => Self::new(NO_WORD).with(count).with_bits(bits),
-            Maybe::Some(number) => Self::refused(number).with(count),
-        }
-    }
-
-    // The identity and the count, or the refusal.
-    pub fn of_whose(whose: Whose) -> Self {
-        match whose {
-            Whose::Named(identity, count) => Self::new(NO_WORD)
-                .with_number(identity as u32)
-                .with_number(count as u32),
-            Whose::Refused(why) => Self::refused(answers::number(why) as u16),
+            None => Self::new(b"").with(count).with_bits(bits),
+            Some(number) => Self::refused(number).with(count),
         }
     }
 
     // The place; or that it is removed; or the place, the count and the bits of a request; or the refusal.
-    pub fn of_said(said: Said, bits: usize) -> Self {
+    pub fn of_said(said: Result<Said, Refusal>, bits: usize) -> Self {
         match said {
-            Said::Place(place) => Self::new(NO_WORD).with_number(place as u32),
-            Said::Removed => Self::new(*b"removed "),
-            Said::Request(place, count) => Self::new(NO_WORD)
-                .with_number(place as u32)
-                .with_number(count as u32)
+            Ok(Said::Place(place)) => Self::new(b"").with_number(u32::from(place)),
+            Ok(Said::Removed) => Self::new(b"removed"),
+            Ok(Said::Request(place, count)) => Self::new(b"")
+                .with_number(u32::from(place))
+                .with_number(u32::from(count))
                 .with_bits(bits),
-            Said::Refused(why) => Self::refused(answers::number(why) as u16),
+            Err(why) => Self::from(why),
         }
     }
 
     // What was written of a frame, in its form; or the refusal.
-    pub fn of_frame(told: Told, bits: usize, form: Form) -> Self {
+    pub fn of_frame(told: Result<(), Refusal>, count: usize, form: Form) -> Self {
         match told {
-            Told::Done => Self {
-                word: NO_WORD,
-                what: NO_WORD,
-                numbers: [0; 16],
-                count: 0,
-                bits,
-                form,
-                lent: false,
-            },
-            Told::Refused(why) => Self::refused(answers::number(why) as u16),
-        }
-    }
-
-    // Yes; or no, and what is wrong first; or the refusal.
-    pub fn of_mark(mark: Mark) -> Self {
-        match mark {
-            Mark::Yes => Self::new(*b"yes     "),
-            Mark::No(fault) => Self::no(fault),
-            Mark::Refused(why) => Self::refused(answers::number(why) as u16),
+            Ok(()) => Self::new(b"").with_bytes(count, form),
+            Err(why) => Self::from(why),
         }
     }
 
     // No, and what is wrong.
     fn no(fault: Fault) -> Self {
-        let mut answer = Self::new(*b"no      ");
-        let what = fault_word(fault);
-        answer.what = what;
+        let mut answer = Self::new(b"no");
+        answer.wrong = Some(fault);
         answer
-    }
-
-    // The sixteen numbers, or the refusal.
-    pub fn of_view(view: View) -> Self {
-        let told = view.told;
-        let row = view.row;
-        let returned = answers::of_told(told);
-        let number = returned.number;
-        match number {
-            Maybe::None => Self {
-                word: NO_WORD,
-                what: NO_WORD,
-                numbers: wide(row),
-                count: 16,
-                bits: 0,
-                form: Form::Digits,
-                lent: false,
-            },
-            Maybe::Some(number) => Self::refused(number),
-        }
-    }
-
-    // The four numbers.
-    pub fn of_totals(totals: Totals) -> Self {
-        Self::new(NO_WORD)
-            .with_number(totals.speech)
-            .with_number(totals.facch)
-            .with_number(totals.refused)
-            .with_number(totals.counts)
-    }
-
-    // What is returned of a take: the kind, the block's number, the count and the bits; or that there is no block yet; or the refusal and what is
-    // returned besides.
-    pub fn of_values(values: Values) -> Self {
-        let number = values.number;
-        let kind = values.kind;
-        let block = values.block;
-        let count = values.count;
-        match number {
-            Maybe::None => Self::of_kind(kind).with(block).with(count),
-            Maybe::Some(number) => Self::refused(number).with(block).with(count),
-        }
     }
 
     // 260 bits of speech, 184 of FACCH.
     fn of_kind(kind: Kind) -> Self {
         match kind {
-            Kind::Speech => Self::new(*b"speech  ").with_bits(260),
-            Kind::Facch => Self::new(*b"facch   ").with_bits(184),
-            Kind::Neither => Self::new(*b"waiting "),
+            Kind::Speech => Self::new(b"speech").with_bits(260),
+            Kind::Facch => Self::new(b"facch").with_bits(184),
+            Kind::Neither => Self::new(b"waiting"),
         }
     }
 
     // The same where the line lent n bytes: what had bits alone is done, and all bytes are said.
     pub fn with_lent(mut self, n: usize) -> Self {
-        if self.count == 0 && self.bits > 0 {
-            let word = *b"done    ";
-            self.word = word;
+        if self.numbers.is_empty() && self.bytes.is_some() {
+            self.word = b"done";
         }
-        self.bits = n;
-        self.lent = true;
-        self
+        self.with_bits(n)
     }
 }
 
-// The sixteen numbers of a view, as an answer has its numbers.
-fn wide(row: [u16; 16]) -> [u32; 16] {
-    let mut numbers = [0u32; 16];
-    for k in 0..16 {
-        numbers[k] = row[k] as u32;
+impl From<Refusal> for Answer {
+    fn from(why: Refusal) -> Self {
+        Self::refused(u16::from(u8::from(why)))
     }
-    numbers
 }
 
-// What is wrong with a block or its count, in a word.
-fn fault_word(fault: Fault) -> [u8; 8] {
-    match fault {
-        Fault::Length => *b"length  ",
-        Fault::Tail => *b"tail    ",
-        Fault::Count => *b"count   ",
-        Fault::Fewest => *b"fewest  ",
+// The identity and the count, or the refusal.
+impl From<Result<Named, Refusal>> for Answer {
+    fn from(whose: Result<Named, Refusal>) -> Self {
+        match whose {
+            Ok(named) => Self::new(b"")
+                .with_number(u32::from(named.identity))
+                .with_number(u32::from(named.count)),
+            Err(why) => Self::from(why),
+        }
+    }
+}
+
+// Yes; or no, and what is wrong first; or the refusal.
+impl From<Result<(), No>> for Answer {
+    fn from(mark: Result<(), No>) -> Self {
+        match mark {
+            Ok(()) => Self::new(b"yes"),
+            Err(No::Wrong(fault)) => Self::no(fault),
+            Err(No::Refused(why)) => Self::from(why),
+        }
+    }
+}
+
+// The sixteen numbers, or the refusal.
+impl From<View> for Answer {
+    fn from(view: View) -> Self {
+        let row = view.row;
+        match view.told {
+            Ok(()) => {
+                let mut answer = Self::new(b"");
+                answer.numbers = ArrayVec::from(row.map(u32::from));
+                answer
+            }
+            Err(why) => Self::from(why),
+        }
+    }
+}
+
+// The four numbers.
+impl From<Totals> for Answer {
+    fn from(totals: Totals) -> Self {
+        Self::new(b"")
+            .with_number(totals.speech)
+            .with_number(totals.facch)
+            .with_number(totals.refused)
+            .with_number(totals.counts)
+    }
+}
+
+// What is returned of a take: the kind, the block's number, the count and the bits; or that there is no block yet; or the refusal and what is
+// returned besides.
+impl From<Values> for Answer {
+    fn from(values: Values) -> Self {
+        let answer = match values.number {
+            None => Self::of_kind(values.kind),
+            Some(number) => Self::refused(number),
+        };
+        answer.with(values.block).with(values.count)
     }
 }

@@ -1,79 +1,54 @@
 // What the kit says of itself: help, help WORD, why N.
 ghost use Rattle.std.specs.Prelude.{◌≤◌, length};
 
-use crate::fields::{Number, field, fields, part, read_number};
-use crate::pages::{REFUSALS, WORDS, all_words, help_page, reasons_page};
-use text::{put_word, same};
+use crate::fields::{arguments, field, read_number};
+use crate::pages::{WORDS, reason};
+use text::put_word;
 
-// What a line asks of the kit itself: mostly nothing; else its words, the line of a word or of a refusal, both counted from 0, or what it does not
-// know.
+// What a line asks of the kit itself: its words, a line of its pages, or what it does not know.
 #[derive(Drop)]
 pub enum Question {
-    Nothing,
     Words,
-    Word(usize),
-    Reason(usize),
+    Line(&'static [u8]),
     Unknown,
 }
 
-pub fn question_of(line: &[u8]) -> Question {
-    if same(field(line, 0), b"help") {
-        return help(line);
+// Mostly a line asks nothing of the kit itself.
+pub fn question_of(line: &[u8]) -> Option<Question> {
+    match field(line, 0) {
+        b"help" => Some(help(line)),
+        b"why" => Some(why(line)),
+        _ => None,
     }
-    if same(field(line, 0), b"why") {
-        return why(line);
-    }
-    Question::Nothing
 }
 
 // help lists the words, and help WORD says what stands after WORD and what it answers.
 fn help(line: &[u8]) -> Question {
-    let n = fields(line);
-    if n == 1 {
-        return Question::Words;
+    match arguments(line) {
+        0 => Question::Words,
+        1 => said(help_of(field(line, 1))),
+        _ => Question::Unknown,
     }
-    let k = place_of_word(field(line, 1));
-    if n == 2 && k < WORDS {
-        return Question::Word(k);
-    }
-    Question::Unknown
 }
 
-// The place of a word among all; past them where it is none.
-fn place_of_word(word: &[u8]) -> usize {
-    let all = all_words();
-    let words = WORDS;
-    for k in 0..words {
-        if same(word, field(&all, k)) {
-            return k;
-        }
-    }
-    words
+// The line of a word.
+fn help_of(asked: &[u8]) -> Option<&'static [u8]> {
+    let (_, line) = WORDS.iter().find(|(word, _)| *word == asked)?;
+    Some(*line)
 }
 
 // why N says refusal N in words.
 fn why(line: &[u8]) -> Question {
-    let k = line_of_reason(refusal_of(field(line, 1)));
-    if fields(line) == 2 && k < REFUSALS {
-        return Question::Reason(k);
-    }
-    Question::Unknown
-}
-
-// The line of a refusal's reason among all; past them where there is none. 11 to 13 are of requests that are not built yet.
-fn line_of_reason(number: usize) -> usize {
-    match number {
-        1..=10 => number - 1,
-        14..=17 => number - 4,
-        _ => REFUSALS,
+    match arguments(line) {
+        1 => said(read_number(field(line, 1)).and_then(reason)),
+        _ => Question::Unknown,
     }
 }
 
-// The number of a refusal; 0, which is none, where there is no number.
-fn refusal_of(characters: &[u8]) -> usize {
-    match read_number(characters) {
-        Number::Is(n) => n as usize,
-        Number::Bad => 0,
+fn said(line: Option<&'static [u8]>) -> Question {
+    match line {
+        Some(line) => Question::Line(line),
+        None => Question::Unknown,
     }
 }
 
@@ -83,30 +58,34 @@ pub fn put_said(out: &mut [u8], question: Question) -> usize
     ensures { result ≤ 1000 }
 {
     match question {
-        Question::Nothing => 0,
-        Question::Words => {
-            let words = all_words();
-            put_line(out, &words)
-        }
-        Question::Word(k) => {
-            let help = help_page();
-            put_line(out, part(&help, k, b'\n'))
-        }
-        Question::Reason(k) => {
-            let reasons = reasons_page();
-            put_line(out, part(&reasons, k, b'\n'))
-        }
-        Question::Unknown => put_line(out, b"?"),
+        Question::Words => put_words(out),
+        Question::Line(line) => put_line(out, 0, line),
+        Question::Unknown => put_word(out, 0, b"?"),
     }
 }
 
-// A line of a page. One that is longer than an answer may be would be left out; none is.
-fn put_line(out: &mut [u8], line: &[u8]) -> usize
+// The words, with a space between them.
+fn put_words(out: &mut [u8]) -> usize
     requires { 1000 ≤ length out.old }
     ensures { result ≤ 1000 }
 {
-    if line.len() > 1000 {
-        return 0;
+    let mut n = 0;
+    for (word, _) in WORDS.iter() {
+        if n > 0 {
+            n = put_line(out, n, b" ");
+        }
+        n = put_line(out, n, word);
     }
-    put_word(out, 0, line)
+    n
+}
+
+// A line of a page, or a part of one. What is longer than an answer may be would be left out; nothing is.
+fn put_line(out: &mut [u8], n: usize, line: &[u8]) -> usize
+    requires { (n ≤ 1000) × (1000 ≤ length out.old) }
+    ensures { result ≤ 1000 }
+{
+    if line.len() > 1000 - n {
+        return n;
+    }
+    put_word(out, n, line)
 }

@@ -9,9 +9,7 @@ mod print;
 mod verbs;
 
 pub use answer::{Answer, Form};
-pub use fields::{Number, field, read_number, rest_of};
+pub use fields::{field, read_number, rest_of};
 pub use help::{Question, put_said, question_of};
 pub use print::put_answer;
-pub use verbs::{
-    Asks, Call, Channel, FrameCall, HubCall, Verb, asked_by, place_of, row_of, verb_at, writes,
-};
+pub use verbs::{Argument, Asks, Call, Channel, FrameCall, HubCall, Verb};

@@ -1,69 +1,73 @@
-// An answer in characters: its words, its numbers and its bits, parted by spaces.
+// An answer in characters: its words, its numbers and its bytes, parted by spaces.
 ghost use Rattle.std.specs.Prelude.{◌≡◌, ◌+◌, ◌≤◌, length};
 
 use crate::answer::{Answer, Form};
-use crate::fields::field;
+use marking::Fault;
 use text::{put_byte, put_number, put_octets, put_word};
 
+// A buffer and the place in it go together here as in text's put.rt, for the reason that stands there; put_answer and put_said are public and take a slice.
 // Puts the answer into `out`, and gives the place after it.
 pub fn put_answer(out: &mut [u8], answer: Answer, written: &[u8]) -> usize
     requires { (length written.now ≤ 600) × (1000 ≤ length out.old) }
     ensures { result ≤ 1000 }
 {
-    let word = answer.word;
-    let what = answer.what;
-    let numbers = answer.numbers;
-    let count = answer.count;
-    let bits = answer.bits;
-    let form = answer.form;
-    let lent = answer.lent;
-    let n = put_padded(out, 0, word);
-    let w = put_what(out, n, what);
-    let m = put_numbers(out, w, numbers, count);
-    if bits > 0 {
-        let l = put_space(out, m);
-        return put_written(out, l, first(written, bits), form);
-    }
-    if lent {
-        return put_word(out, m, b" -");
-    }
-    m
+    let n = put_word(out, 0, answer.word);
+    let w = put_wrong(out, n, answer.wrong);
+    let m = put_numbers(out, w, &answer.numbers);
+    put_bytes(out, m, answer.bytes, written)
 }
 
-// A word, without the spaces that fill it up.
-fn put_padded(out: &mut [u8], n: usize, word: [u8; 8]) -> usize
-    requires { (n ≤ 9) × (1000 ≤ length out.old) }
-    ensures { result ≤ n + 8 }
-{
-    put_word(out, n, field(&word, 0))
-}
-
-// The second word, where there is one.
-fn put_what(out: &mut [u8], n: usize, what: [u8; 8]) -> usize
+// What is wrong, where something is.
+fn put_wrong(out: &mut [u8], n: usize, wrong: Option<Fault>) -> usize
     requires { (n ≤ 8) × (1000 ≤ length out.old) }
     ensures { result ≤ 17 }
 {
-    if what[0] == b' ' {
-        return n;
+    match wrong {
+        Some(fault) => {
+            let m = put_space(out, n);
+            put_word(out, m, fault_word(fault))
+        }
+        None => n,
     }
-    let m = put_space(out, n);
-    put_padded(out, m, what)
 }
 
-// The first `count` of the numbers.
-fn put_numbers(out: &mut [u8], n: usize, numbers: [u32; 16], count: usize) -> usize
-    requires { (n ≤ 17) × (1000 ≤ length out.old) }
+// What is wrong with a block or its count, in a word.
+fn fault_word(fault: Fault) -> &'static [u8]
+    ensures { length result.now ≤ 8 }
+{
+    match fault {
+        Fault::Length => b"length",
+        Fault::Tail => b"tail",
+        Fault::Count => b"count",
+        Fault::Fewest => b"fewest",
+    }
+}
+
+fn put_numbers(out: &mut [u8], n: usize, numbers: &[u32]) -> usize
+    requires { (n ≤ 17) × (length numbers.now ≤ 16) × (1000 ≤ length out.old) }
     ensures { result ≤ 353 }
 {
     let mut m = n;
-    for k in 0..16 {
-        if k >= count {
-            return m;
-        }
-        let l = put_space(out, m);
-        m = put_number(out, l, numbers[k] as u64);
+    for number in numbers {
+        let at = put_space(out, m);
+        m = put_number(out, at, u64::from(*number));
     }
     m
+}
+
+// The bytes that are said, if any.
+fn put_bytes(out: &mut [u8], n: usize, bytes: Option<(usize, Form)>, written: &[u8]) -> usize
+    requires { (n ≤ 353) × (length written.now ≤ 600) × (1000 ≤ length out.old) }
+    ensures { result ≤ 1000 }
+{
+    match bytes {
+        None => n,
+        Some((0, _)) => put_word(out, n, b" -"),
+        Some((count, form)) => {
+            let m = put_space(out, n);
+            put_written(out, m, first(written, count), form)
+        }
+    }
 }
 
 // A space, before all but what stands first.
@@ -71,10 +75,7 @@ fn put_space(out: &mut [u8], n: usize) -> usize
     requires { n + 1 ≤ length out.old }
     ensures { result ≤ n + 1 }
 {
-    if n == 0 {
-        return 0;
-    }
-    put_byte(out, n, b' ')
+    if n == 0 { 0 } else { put_byte(out, n, b' ') }
 }
 
 // The bytes that were written, in their form; of octets no more than a frame has.
@@ -94,11 +95,10 @@ fn put_parted(out: &mut [u8], n: usize, bytes: &[u8]) -> usize
     requires { (n ≤ 354) × (length bytes.now ≤ 600) × (1000 ≤ length out.old) }
     ensures { result ≤ 1000 }
 {
-    let head = first(bytes, 21);
-    let at = head.len();
+    let (head, rest) = bytes.split_at(bytes.len().min(21));
     let m = put_digits(out, n, head);
     let l = put_space(out, m);
-    put_digits(out, l, &bytes[at..])
+    put_digits(out, l, rest)
 }
 
 // Each byte is one character, '0' to '9', or x for one over 9.
@@ -106,10 +106,11 @@ fn put_digits(out: &mut [u8], n: usize, bytes: &[u8]) -> usize
     requires { n + length bytes.now ≤ length out.old }
     ensures { result ≡ n + length bytes.now }
 {
-    for i in 0..bytes.len() {
-        out[n + i] = character(bytes[i]);
+    let end = n + bytes.len();
+    for (to, byte) in out[n..end].iter_mut().zip(bytes) {
+        *to = character(*byte);
     }
-    n + bytes.len()
+    end
 }
 
 fn character(byte: u8) -> u8 {
@@ -120,5 +121,5 @@ fn character(byte: u8) -> u8 {
 fn first(bytes: &[u8], n: usize) -> &[u8]
     ensures { (length result.now ≤ length bytes.now) × (length result.now ≤ n) }
 {
-    if n < bytes.len() { &bytes[0..n] } else { bytes }
+    &bytes[..n.min(bytes.len())]
 }

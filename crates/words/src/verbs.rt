@@ -1,8 +1,8 @@
 // The table of verbs, and the verb of a line.
-ghost use Rattle.std.specs.Prelude.{◌≤◌};
+ghost use Rattle.std.specs.Prelude.{◌≡◌, ◌==◌, ◌≤◌, IfSome, count_by, length};
 
-use crate::fields::{Number, field, fields, read_number};
-use text::{find, same};
+use crate::fields::{arguments, field};
+use Argument::{Bits, Block, Number, Octets, Speech, Word};
 
 // A channel: its blocks are coded to be sent, and decoded as they are received.
 #[derive(Clone, Copy)]
@@ -51,129 +51,120 @@ pub enum Asks {
     Stream(Call),
     Hub(HubCall),
     Frame(FrameCall),
-    Nothing,
 }
 
-// A row of the table, filled up with spaces.
-pub type Verb = [u8; 20];
+// An argument of a line.
+#[derive(Clone, Copy, PartialEq)]
+pub enum Argument {
+    Number,
+    Bits,
+    // of a mark, its channel and its block
+    Word,
+    Block,
+    // of a frame
+    Speech,
+    Octets,
+}
 
-const ROWS: usize = 26;
-
-// Every verb: its word, how many bytes are written for it into a buffer that a line may lend, and its arguments in order, n for a number and b for bits; of
-// a mark c for the channel and u for the block; of a frame u for its speech and h for its octets.
+// Every verb: its word, its arguments in order, and what it asks for.
 // One that may have more arguments or fewer has a row for each: `trellis` alone views nothing.
-const VERBS: [Verb; ROWS] = [
-    *b"speech 456 b        ",
-    *b"control 456 b       ",
-    *b"sacch 464 b         ",
-    *b"access 36 nb        ",
-    *b"sch 78 b            ",
-    *b"efr 456 b           ",
-    *b"speech? 260 b       ",
-    *b"control? 184 b      ",
-    *b"sacch? 184 b        ",
-    *b"access? 8 nb        ",
-    *b"sch? 25 b           ",
-    *b"efr? 244 b          ",
-    *b"whose 0 b           ",
-    *b"mark 0 cbun         ",
-    *b"trellis 0 b         ",
-    *b"trellis 0           ",
-    *b"send 464 b          ",
-    *b"end 464             ",
-    *b"take 260 nb         ",
-    *b"totals 0            ",
-    *b"enrol 0 n           ",
-    *b"remove 0 n          ",
-    *b"hear 8 b            ",
-    *b"frame 0 bu          ",
-    *b"frame? 0 h          ",
-    *b"fresh 0             ",
+static VERBS: [(&[u8], &[Argument], Asks); 26] = [
+    (b"speech", &[Bits], Asks::Send(Channel::Speech)),
+    (b"control", &[Bits], Asks::Send(Channel::Control)),
+    (b"sacch", &[Bits], Asks::Send(Channel::Sacch)),
+    (b"access", &[Number, Bits], Asks::Send(Channel::Access)),
+    (b"sch", &[Bits], Asks::Send(Channel::Sch)),
+    (b"efr", &[Bits], Asks::Send(Channel::Efr)),
+    (b"speech?", &[Bits], Asks::Receive(Channel::Speech)),
+    (b"control?", &[Bits], Asks::Receive(Channel::Control)),
+    (b"sacch?", &[Bits], Asks::Receive(Channel::Sacch)),
+    (b"access?", &[Number, Bits], Asks::Receive(Channel::Access)),
+    (b"sch?", &[Bits], Asks::Receive(Channel::Sch)),
+    (b"efr?", &[Bits], Asks::Receive(Channel::Efr)),
+    (b"whose", &[Bits], Asks::Whose),
+    (b"mark", &[Word, Bits, Block, Number], Asks::Mark),
+    (b"trellis", &[Bits], Asks::View),
+    (b"trellis", &[], Asks::View),
+    (b"send", &[Bits], Asks::Stream(Call::Send)),
+    (b"end", &[], Asks::Stream(Call::End)),
+    (b"take", &[Number, Bits], Asks::Stream(Call::Take)),
+    (b"totals", &[], Asks::Stream(Call::Totals)),
+    (b"enrol", &[Number], Asks::Hub(HubCall::Enrol)),
+    (b"remove", &[Number], Asks::Hub(HubCall::Remove)),
+    (b"hear", &[Bits], Asks::Hub(HubCall::Hear)),
+    (b"frame", &[Bits, Speech], Asks::Frame(FrameCall::Write)),
+    (b"frame?", &[Octets], Asks::Frame(FrameCall::Read)),
+    (b"fresh", &[], Asks::Stream(Call::Fresh)),
 ];
 
-// What each of them asks for, in the same order. (One list of structs with both would cost the prover several times as much.)
-const ASKED: [Asks; ROWS] = [
-    Asks::Send(Channel::Speech),
-    Asks::Send(Channel::Control),
-    Asks::Send(Channel::Sacch),
-    Asks::Send(Channel::Access),
-    Asks::Send(Channel::Sch),
-    Asks::Send(Channel::Efr),
-    Asks::Receive(Channel::Speech),
-    Asks::Receive(Channel::Control),
-    Asks::Receive(Channel::Sacch),
-    Asks::Receive(Channel::Access),
-    Asks::Receive(Channel::Sch),
-    Asks::Receive(Channel::Efr),
-    Asks::Whose,
-    Asks::Mark,
-    Asks::View,
-    Asks::View,
-    Asks::Stream(Call::Send),
-    Asks::Stream(Call::End),
-    Asks::Stream(Call::Take),
-    Asks::Stream(Call::Totals),
-    Asks::Hub(HubCall::Enrol),
-    Asks::Hub(HubCall::Remove),
-    Asks::Hub(HubCall::Hear),
-    Asks::Frame(FrameCall::Write),
-    Asks::Frame(FrameCall::Read),
-    Asks::Stream(Call::Fresh),
-];
+// The verb of a line: what it asks for, and its arguments in order.
+#[derive(Clone, Copy)]
+pub struct Verb {
+    pub asks: Asks,
+    takes: &'static [Argument],
+}
 
-// The row of the verb that a line uses; past them all where it uses none.
-pub fn row_of(line: &[u8]) -> usize {
-    // the table is made once: in the loop it would be made for each row
-    let verbs = VERBS;
-    let rows = ROWS;
-    for k in 0..rows {
-        if uses(line, verbs[k]) {
-            return k;
+impl Verb {
+    // The verb whose word stands first in a line and that takes as many arguments; none where there is none.
+    pub fn of(line: &[u8]) -> Option<Self>
+        ensures { IfSome result (λ verb. length verb.takes.now ≡ count_by (λ byte. byte == 32) line.now) }
+    {
+        let first = field(line, 0);
+        let count = arguments(line);
+        let (_, takes, asks) = VERBS
+            .iter()
+            .find(|(word, takes, _)| *word == first && takes.len() == count)?;
+        Some(Self { asks: *asks, takes })
+    }
+
+    // Its argument of a kind, out of a line that uses it; none where it takes none.
+    pub fn argument(self, kind: Argument, line: &[u8]) -> Option<&[u8]>
+        ensures { IfSome result (λ x. length x.now ≤ length line.now) }
+    {
+        let place = self.takes.iter().position(|taken| *taken == kind)?;
+        Some(field(line, place + 1))
+    }
+}
+
+impl Asks {
+    // How many bytes are written for it into a buffer that a line may lend.
+    pub fn writes(self) -> usize
+        ensures { result ≤ 464 }
+    {
+        match self {
+            Self::Send(channel) => channel.coded(),
+            Self::Receive(channel) => channel.bits(),
+            Self::Stream(Call::Send | Call::End) => 464,
+            Self::Stream(Call::Take) => 260,
+            Self::Hub(HubCall::Hear) => 8,
+            _ => 0,
         }
     }
-    rows
 }
 
-// Has a line the verb's word, and as many arguments?
-fn uses(line: &[u8], verb: Verb) -> bool {
-    if fields(line) != 1 + field(&verb, 2).len() {
-        return false;
-    }
-    same(field(line, 0), field(&verb, 0))
-}
-
-// Row k of the table; past its end, a verb that takes and writes nothing.
-pub fn verb_at(k: usize) -> Verb {
-    if k < ROWS {
-        return VERBS[k];
-    }
-    [b' '; 20]
-}
-
-// What the verb of row k asks for.
-pub fn asked_by(k: usize) -> Asks {
-    if k < ROWS {
-        return ASKED[k];
-    }
-    Asks::Nothing
-}
-
-// How many bytes are written for a verb into a buffer that a line may lend: at most 464.
-pub fn writes(verb: Verb) -> usize
-    ensures { result ≤ 464 }
-{
-    match read_number(field(&verb, 1)) {
-        Number::Is(n) => {
-            if n > 464 {
-                return 464;
-            }
-            n as usize
+impl Channel {
+    // How many coded bits a block has.
+    fn coded(self) -> usize
+        ensures { result ≤ 464 }
+    {
+        match self {
+            Self::Speech | Self::Control | Self::Efr => 456,
+            Self::Sacch => 464,
+            Self::Access => 36,
+            Self::Sch => 78,
         }
-        Number::Bad => 0,
     }
-}
 
-// Which field of a line is the verb's argument of a kind; past them all where it takes none.
-pub fn place_of(kind: u8, verb: Verb) -> usize {
-    1 + find(field(&verb, 2), 0, kind)
+    // How many bits it has that are coded.
+    fn bits(self) -> usize
+        ensures { result ≤ 464 }
+    {
+        match self {
+            Self::Speech => 260,
+            Self::Control | Self::Sacch => 184,
+            Self::Access => 8,
+            Self::Sch => 25,
+            Self::Efr => 244,
+        }
+    }
 }

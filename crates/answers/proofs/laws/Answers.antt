@@ -1,12 +1,10 @@
 -- Two results that a contract allows are equal; and the ways in which a call ends.
-use Rattle.std.specs.Prelude.{List, [], ◌∷◌, ◌≡◌, refl, ℕ, ◌≤◌, get_or}
+use Rattle.std.specs.Prelude.{List, [], ◌∷◌, Ok, Err, ◌≡◌, refl, ℕ, ◌≤◌, get_or}
 use Rattle.std.proofs.Common.{sym, ◌∙◌, lit≤}
 use Rattle.std.proofs.Math.Path.{ap}
-use Rattle.answers.specs.Answers.{Answer, Meets, number_of, sent_or, tells}
+use Rattle.answers.specs.Answers.{Answer, Meets, Told, number_of, sent_or, tells}
 use Rattle.answers.specs.declared.Refusal.{Refusal}
 use Rattle.answers.specs.declared.Refusal.TheVariants.{Length, NotBits, Identity, OutOfTurn, Full, NothingSent, Ended, Parity, Flags, Crc, Taken, AllInUse, EmptyPlace, NoneAccepts, FixedBit, FrameType}
-use Rattle.answers.specs.declared.Told.{Told}
-use Rattle.answers.specs.declared.Told.TheVariants.{Done, Refused}
 
 -- at most one result, and one content of the lent buffer, meets the answer a
 abbrev pub Settled : {A : Type 0} → Answer A → Type 0
@@ -19,6 +17,10 @@ meets_once a r s x y m n = (m.result ∙ sym n.result, m.left ∙ sym n.left)
 -- a result and a content that are the answer meet it
 pub meets_as : {A : Type 0} (a : Answer A) (r : A) (x : List ℕ) → record { result = r; left = x } ≡ a → Meets a r x
 meets_as {A} a r x e = record { result = ap (λ (b : Answer A). b.result) e; left = ap (λ (b : Answer A). b.left) e }
+
+-- what a result meets, the same result under another name meets
+pub known : {A : Type 0} {a : Answer A} {x : List ℕ} {r s : A} → r ≡ s → Meets a r x → Meets a s x
+known e m = record { result = sym e ∙ m.result; left = m.left }
 
 -- ---- no two refusals have one number: there is a way back from it, by a list in which each stands at its number; Length fills the numbers that none has
 abbrev by_number : List Refusal
@@ -71,10 +73,10 @@ number_fits FrameType = lit≤ tt
 
 -- ---- the two ways in which a call ends that is judged first
 module _ (t : Told) (sent before : List ℕ) (r : Told) (e : r ≡ t) where
-  pub tells_done : (after : List ℕ) → r ≡ Done → after ≡ sent → Meets (tells t sent before) r after
+  pub tells_done : (after : List ℕ) → r ≡ Ok tt → after ≡ sent → Meets (tells t sent before) r after
   unfolding tells sent_or
   tells_done after f g = record { result = e; left = g ∙ ap (λ (s : Told). sent_or s sent before) (sym f ∙ e) }
 
-  pub tells_refused : (x : Refusal) → r ≡ Refused x → Meets (tells t sent before) r before
+  pub tells_refused : (x : Refusal) → r ≡ Err x → Meets (tells t sent before) r before
   unfolding tells sent_or
   tells_refused x f = record { result = e; left = ap (λ (s : Told). sent_or s sent before) (sym f ∙ e) }

@@ -1,5 +1,5 @@
 -- The largest byte of a list says whether one is over a bound.
-use Rattle.std.specs.Prelude.{true, List, [], ◌∷◌, ◌++◌, ◌≡◌, ℕ, zero, suc, ◌≤◌, ◌<◌, max, length, get_or, take}
+use Rattle.std.specs.Prelude.{true, List, [], ◌∷◌, ◌++◌, ◌≡◌, ℕ, zero, suc, ◌≤◌, ◌<◌, max, length, get_or, take, fold}
 use Rattle.std.proofs.Common.{sym, ap, ◌∙◌, le_trans, arith, take-suc, leb-true, le-leb}
 use Rattle.std.proofs.Math.Nat.{max-zero, zero-max, le-max_left, le-max_right}
 use Rattle.bits.specs.Bits.{largest, none_over, NoneOver}
@@ -8,6 +8,12 @@ largest_snoc : (w : List ℕ) (b : ℕ) → largest (w ++ (b ∷ [])) ≡ max (l
 unfolding largest
 largest_snoc [] b = max-zero b ∙ sym (zero-max b)
 largest_snoc (a ∷ w) b = rw (largest_snoc w b) (omega arith)
+
+-- the larger of what was found and the next byte, from the first to the last
+pub largest_fold : (m : ℕ) (w : List ℕ) → fold max m w ≡ max m (largest w)
+unfolding largest
+largest_fold m [] = sym (max-zero m)
+largest_fold m (b ∷ w) = largest_fold (max m b) w ∙ omega arith
 
 -- one more byte is looked at
 pub largest_take : (w : List ℕ) (i : ℕ) → i < length w → largest (take (suc i) w) ≡ max (largest (take i w)) (get_or w i 0)

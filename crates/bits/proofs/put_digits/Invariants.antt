@@ -7,6 +7,3 @@ at n x k = x / 2 ^ (n - 1 - k) % 2
 
 abbrev pub invariant-loop-k : goal.invariant-loop-k
 invariant-loop-k l = Filled (at l.n l.x) l.n l.k l.out
-
-abbrev pub decreases-loop-k : goal.decreases-loop-k
-decreases-loop-k l = l.n - l.k

@@ -1,15 +1,16 @@
 -- `coder::judge` is right: each answer is the case of `judged` to which the tests on the way lead.
 use borrow.Author.Tests.{eq-eqb, ne_eqb, le-leb, lt-leb}
 use Rattle.coder.specs.Entries.{judged}
+use Rattle.coder.proofs.judge.Goals.{then-d-reads-via-then-d-reads, then-d-reads-via-else-d-reads+then-out-writes}
 use Rattle.coder.proofs.judge.Goals as goal
 
 pub returns-then-d-reads : goal.returns-then-d-reads
 unfolding judged
-returns-then-d-reads c = simp (ne_eqb _ _ c.if-d-reads.true)
-
-pub returns-then-out-writes : goal.returns-then-out-writes
-unfolding judged
-returns-then-out-writes c = simp (eq-eqb _ _ c.if-d-reads.false, ne_eqb _ _ c.if-out-writes.true)
+returns-then-d-reads c =
+    elim c.then-d-reads.branch [
+      | then-d-reads-via-then-d-reads w ↦ simp (ne_eqb _ _ w.if-d-reads.true)
+      | then-d-reads-via-else-d-reads+then-out-writes w ↦ simp (eq-eqb _ _ w.if-d-reads.false, ne_eqb _ _ w.if-out-writes.true)
+    ]
 
 pub returns-then-not-none_over : goal.returns-then-not-none_over
 unfolding judged

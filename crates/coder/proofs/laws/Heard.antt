@@ -1,5 +1,5 @@
 -- What `coder::block::receive` needs: the nearest block at the front of a buffer, the verdict by a number, and how a receiving entry ends.
-use Rattle.std.specs.Prelude.{Bool, ◌≡◌, leb, drop}
+use Rattle.std.specs.Prelude.{Bool, IsErrAnd, ◌≡◌, leb, drop, Ok, Err}
 use Rattle.std.proofs.Math.Bool.{true, false}
 use mathlib.Core.List.{List, ◌++◌}
 use Rattle.std.proofs.Math.Path.{refl, sym, ap, ap₂, subst}
@@ -9,6 +9,7 @@ use Rattle.std.specs.Int.Bits.{bit_xor}
 use Rattle.std.proofs.Math.Dec.{eqb}
 use Rattle.std.proofs.Math.ListN.{length, take}
 use Rattle.std.proofs.lemmas.List.{take-append-le}
+use Rattle.std.proofs.lemmas.Result.{err_from_is_err_and}
 use Rattle.std.proofs.Math.Nat.{pow-succ'}
 use Rattle.bits.specs.Bits.{Bits, Symbols, none_over, pick, add, digits, value, ones, zeros}
 use Rattle.bits.proofs.laws.Sum.{length_add, bits_add, add_assoc, bits_take, bits_drop, length_ones}
@@ -21,17 +22,14 @@ use Rattle.places.specs.Places.{e_at, gathered_at, gathered}
 use Rattle.parity.specs.Asked.{Generates}
 use Rattle.trellis.specs.Nearest.{Candidate, nearest, nearest_count}
 use Rattle.trellis.proofs.laws.Nearest.{nearest_is}
-use Rattle.answers.specs.Answers.{Meets, heard_or, hears}
-use Rattle.answers.specs.declared.Heard.{Heard}
-use Rattle.answers.specs.declared.Heard.TheVariants.{Good, Refused, Bad}
+use Rattle.answers.specs.Answers.{Meets, heard_or, hears, Told, Heard}
 use Rattle.answers.specs.declared.Refusal.{Refusal}
-use Rattle.answers.specs.declared.Told.{Told}
-use Rattle.answers.specs.declared.Told.TheVariants as told
 use Rattle.coder.specs.Entries.{judged, lengths, Given}
 use Rattle.coder.specs.Received.{Hearing, all_ones, block_heard, verdict, hands, judged_hearing, reception}
-use Rattle.coder.specs.declared.block.Format.{Format}
+use Rattle.coder.specs.declared.format.Format.{Format}
 use Rattle.coder.proofs.laws.Entries.{done}
-use Rattle.coder.specs.laws.Format.{Fits, size, generator_of}
+use Rattle.coder.specs.laws.Format.{size, generator_of}
+use Rattle.answers.specs.declared.Unheard.TheVariants as unheard
 
 -- ---- a colour that is added to the parity bits is added to the remainder
 module _ (g d p b : List ℕ) (lp : length p ≡ length g) (lb : length b ≡ length g) (bd : Bits d) (bp : Bits p) (bb : Bits b) where
@@ -60,24 +58,24 @@ value_ones (suc r) =
 
 -- ---- what is told of a block that is heard, by the verdict
 module _ (h : Hearing) (d : List ℕ) (t : Bool) (e : t ≡ h.good) (k : ℕ) (ek : k ≡ h.count) where
-  said : (b : Bool) → t ≡ b → pick b (Good k) (Bad k) ≡ verdict h
+  said : (b : Bool) → t ≡ b → pick b (Ok k) (Err (unheard.Bad k)) ≡ verdict h
   unfolding verdict
-  said b f = ap₂ (λ (x : Bool) (n : ℕ). pick x (Good n) (Bad n)) (sym f ∙ e) ek
+  said b f = ap₂ (λ (x : Bool) (n : ℕ). pick x (Ok n) (Err (unheard.Bad n))) (sym f ∙ e) ek
 
-  pub handed_good : (after : List ℕ) → t ≡ true → after ≡ h.bits → Meets (hands h d) (Good k) after
+  pub handed_good : (after : List ℕ) → t ≡ true → after ≡ h.bits → Meets (hands h d) (Ok k) after
   unfolding hands hears heard_or
   handed_good after f ea = record { result = said true f; left = ea ∙ ap (λ (x : Heard). heard_or x h.bits d) (said true f) }
 
-  pub handed_bad : t ≡ false → Meets (hands h d) (Bad k) d
+  pub handed_bad : t ≡ false → Meets (hands h d) (Err (unheard.Bad k)) d
   unfolding hands hears heard_or
   handed_bad f = record { result = said false f; left = ap (λ (x : Heard). heard_or x h.bits d) (said false f) }
 
 -- ---- the nearest block u, which stands at the front of v, and what of it is divided
-module _ (f : Format) (c rest v : List ℕ) (fits : Fits f) (ev : v ≡ nearest c (size f) ++ rest) where
+module _ (f : Format) (c rest v : List ℕ) (ev : v ≡ nearest c (size f) ++ rest) where
   pub found : Candidate (size f) (nearest c (size f))
-  found = (nearest_is c (size f) (omega arith) fits.short).candidate
+  found = (nearest_is c (size f) (omega arith) f.short).candidate
 
-  front : (k : ℕ) → k ≤ size f → take k v ≡ take k (nearest c (size f))
+  pub front : (k : ℕ) → k ≤ size f → take k v ≡ take k (nearest c (size f))
   front k h = ap (take k) ev ∙ take-append-le k (nearest c (size f)) rest (omega (arith, found.long, h))
 
   module _ (k : ℕ) (ek : k ≡ f.bits + f.degree) where
@@ -88,13 +86,13 @@ module _ (f : Format) (c rest v : List ℕ) (fits : Fits f) (ev : v ≡ nearest 
     divisible =
         let u : List ℕ = nearest c (size f) in
         let l : length (take (f.bits + f.degree) u) ≡ f.bits + f.degree = length-take-le (f.bits + f.degree) u (omega (arith, found.long)) in
-        (fits.generates, rw divided (omega (arith, l)), rw divided (bits_take (f.bits + f.degree) u found.bits))
+        (f.generates, rw divided (omega (arith, l)), rw divided (bits_take (f.bits + f.degree) u found.bits))
 
 pub same_size : (f : Format) → f.bits + length (generator_of f) + 4 ≡ size f
 same_size f = omega (arith, length_digits f.degree f.generator)
 
 -- ---- the bits, the count and the verdict
-module _ (f : Format) (colour : ℕ) (c d rest v : List ℕ) (fits : Fits f) (given : Given 2 f.coded f.bits c d) (ev : v ≡ nearest c (size f) ++ rest) where
+module _ (f : Format) (colour : ℕ) (c d rest v : List ℕ) (given : Given 2 f.coded f.bits c d) (ev : v ≡ nearest c (size f) ++ rest) where
   abbrev u : List ℕ
   u = nearest c (size f)
 
@@ -108,19 +106,19 @@ module _ (f : Format) (colour : ℕ) (c d rest v : List ℕ) (fits : Fits f) (gi
   long_g = length_digits f.degree f.generator
 
   candidate : Candidate (size f) u
-  candidate = found f c rest v fits ev
+  candidate = found f c rest v ev
 
   m_is : n + f.degree - 0 ≡ f.bits + f.degree
   m_is = omega (arith, given.lends)
 
   pub heard_divisible : Generates f.generator f.degree × (f.degree ≤ length (take (n + f.degree - 0) v)) × Bits (take (n + f.degree - 0) v)
-  heard_divisible = divisible f c rest v fits ev (n + f.degree - 0) m_is
+  heard_divisible = divisible f c rest v ev (n + f.degree - 0) m_is
 
   pub heard_bits : take (n - 0) v ≡ (block_heard g colour f.bits c).bits
   unfolding block_heard
   heard_bits =
       let k : n - 0 ≡ f.bits = omega (arith, given.lends) in
-      ap (λ (j : ℕ). take j v) k ∙ front f c rest v fits ev f.bits (omega arith) ∙ ap (λ (j : ℕ). take f.bits (nearest c j)) (sym (same_size f))
+      ap (λ (j : ℕ). take j v) k ∙ front f c rest v ev f.bits (omega arith) ∙ ap (λ (j : ℕ). take f.bits (nearest c j)) (sym (same_size f))
 
   pub heard_count : (k : ℕ) → k ≡ nearest_count c (size f) → k ≡ (block_heard g colour f.bits c).count
   unfolding block_heard
@@ -134,7 +132,7 @@ module _ (f : Format) (colour : ℕ) (c d rest v : List ℕ) (fits : Fits f) (gi
       let b : List ℕ = digits (length g) colour in
       let lp : length p ≡ length g = length_lent u m (length g) (omega (arith, candidate.long, long_g)) in
       let h : colour < 2 ^ length g = subst (λ (k : ℕ). colour < 2 ^ k) (sym long_g) within in
-      let whole : take m u ++ p ≡ take (n + f.degree - 0) v = sym (take-add m (length g) u) ∙ ap (λ (k : ℕ). take (m + k) u) long_g ∙ sym (divided f c rest v fits ev (n + f.degree - 0) m_is) in
+      let whole : take m u ++ p ≡ take (n + f.degree - 0) v = sym (take-add m (length g) u) ∙ ap (λ (k : ℕ). take (m + k) u) long_g ∙ sym (divided f c rest v ev (n + f.degree - 0) m_is) in
       let turned = value_coloured g (take m u) p b lp (length_digits (length g) colour) (bits_take m u candidate.bits) (bits_take (length g) (drop m u) (bits_drop m u candidate.bits)) (bits_digits (length g) colour) in
       e ∙ sym (ap₂ eqb
       (ap (λ (k : ℕ). value (remainder g (take m (nearest c k) ++ add (take (length g) (drop m (nearest c k))) b))) (same_size f)
@@ -143,25 +141,36 @@ module _ (f : Format) (colour : ℕ) (c d rest v : List ℕ) (fits : Fits f) (gi
 
 -- ---- the two ways in which a receiving entry ends
 module _ (n m i : ℕ) (c d : List ℕ) (h : Hearing) (j : Told) (e : j ≡ judged (lengths c n d m) (none_over 2 c) (leb i 63)) where
-  pub reception_done : (r : Heard) (after : List ℕ) → j ≡ told.Done → Meets (hands h d) r after → Meets (reception n m i c h d) r after
+  pub reception_done : (r : Heard) (after : List ℕ) → j ≡ (Ok tt) → Meets (hands h d) r after → Meets (reception n m i c h d) r after
   unfolding reception judged_hearing hands hears
   reception_done r after f o =
       let t : verdict h ≡ judged_hearing (judged (lengths c n d m) (none_over 2 c) (leb i 63)) h = ap (λ (x : Told). judged_hearing x h) (sym f ∙ e) in
       record { result = o.result ∙ t; left = o.left ∙ ap (λ (x : Heard). heard_or x h.bits d) t }
 
-  pub reception_refused : (x : Refusal) → j ≡ told.Refused x → Meets (reception n m i c h d) (Refused x) d
+  pub reception_refused : (x : Refusal) → j ≡ Err x → Meets (reception n m i c h d) (Err (unheard.Refused x)) d
   unfolding reception judged_hearing hears heard_or
   reception_refused x f =
-      let t : Refused x ≡ judged_hearing (judged (lengths c n d m) (none_over 2 c) (leb i 63)) h = ap (λ (y : Told). judged_hearing y h) (sym f ∙ e) in
+      let t : Err (unheard.Refused x) ≡ judged_hearing (judged (lengths c n d m) (none_over 2 c) (leb i 63)) h = ap (λ (y : Told). judged_hearing y h) (sym f ∙ e) in
       record { result = t; left = ap (λ (y : Heard). heard_or y h.bits d) t }
+
+-- ---- the same, where it goes on with `?`
+pub received_on : (n m i : ℕ) (c d : List ℕ) (h : Hearing) {after : List ℕ} {j : Told} {r : Heard} → j ≡ judged (lengths c n d m) (none_over 2 c) (leb i 63) → j ≡ Ok tt
+    → Meets (hands h d) r after → Meets (reception n m i c h d) r after
+received_on n m i c d h {after} {j} {r} e f o = reception_done n m i c d h j e r after f o
+
+pub received_none : (n m i : ℕ) (c d : List ℕ) (h : Hearing) {j : Told} {out : Heard} {x : Refusal} → j ≡ judged (lengths c n d m) (none_over 2 c) (leb i 63) → j ≡ Err x
+    → IsErrAnd out (λ y. y ≡ unheard.Refused x) → Meets (reception n m i c h d) out d
+received_none n m i c d h {j} {out} {x} e f q =
+    let p = err_from_is_err_and out q in
+    rw (p.1, p.2) (reception_refused n m i c d h j e x f)
 
 -- ---- an entry that is given what it should be hears the block
 module _ (n m i : ℕ) (c d : List ℕ) (l : i ≤ 63) (g : Given 2 n m c d) (h : Hearing) (k : ℕ) (ek : h.count ≡ k) where
-  pub hears_good : (bits : List ℕ) → h.good ≡ true → h.bits ≡ bits → reception n m i c h d ≡ record { result = Good k; left = bits }
+  pub hears_good : (bits : List ℕ) → h.good ≡ true → h.bits ≡ bits → reception n m i c h d ≡ record { result = Ok k; left = bits }
   unfolding reception judged_hearing verdict hears heard_or
   hears_good bits eg eb = rw (done 2 n m i c d l g, eg, ek, eb) refl
 
-  pub hears_bad : h.good ≡ false → reception n m i c h d ≡ record { result = Bad k; left = d }
+  pub hears_bad : h.good ≡ false → reception n m i c h d ≡ record { result = Err (unheard.Bad k); left = d }
   unfolding reception judged_hearing verdict hears heard_or
   hears_bad eg = rw (done 2 n m i c d l g, eg, ek) refl
 

@@ -10,36 +10,36 @@ use Rattle.bits.proofs.laws.Tab.{at_tab}
 use Rattle.places.specs.Places.{e_at}
 use Rattle.places.proofs.laws.Four.{cell_bit, cell_hl, cell_hu, four_at, flag_sacch}
 use Rattle.places.proofs.laws.Places.{every_bit}
-use Rattle.coder.specs.Blocks.{speech_p, speech_uat, speech_u, control_block, sacch_message}
+use Rattle.coder.specs.Blocks.{speech_p, speech_u_at, speech_u, control_block, sacch_message}
 
 -- ---- 000, 3.1.2.1 b)
 module _ (d : List ℕ) where
   -- u(k) = d(2k) for k = 0..90
   pub even_bits : (k : ℕ) → k ≤ 90 → get_or (speech_u d) k 0 ≡ get_or d (2 * k) 0
-  unfolding speech_u speech_uat
-  even_bits k h = at_tab 189 (speech_uat d (speech_p d)) k (omega arith) ∙ rw (lt-ltb k 91 (omega arith))
+  unfolding speech_u speech_u_at
+  even_bits k h = at_tab 189 (speech_u_at d (speech_p d)) k (omega arith) ∙ rw (lt-ltb k 91 (omega arith))
 
   -- u(184-k) = d(2k+1) for k = 0..90
   pub odd_bits : (k : ℕ) → k ≤ 90 → get_or (speech_u d) (184 - k) 0 ≡ get_or d (2 * k + 1) 0
-  unfolding speech_u speech_uat
+  unfolding speech_u speech_u_at
   odd_bits k h =
       let e : 184 - (184 - k) ≡ k = omega arith in
-      at_tab 189 (speech_uat d (speech_p d)) (184 - k) (omega arith)
+      at_tab 189 (speech_u_at d (speech_p d)) (184 - k) (omega arith)
       ∙ rw (le-ltb (184 - k) 91 (omega arith), le-ltb (184 - k) 94 (omega arith), lt-ltb (184 - k) 185 (omega arith), e)
 
   -- u(91+k) = p(k) for k = 0..2: the parity sits in the middle
   pub parity_bits : (k : ℕ) → k ≤ 2 → get_or (speech_u d) (91 + k) 0 ≡ get_or (speech_p d) k 0
-  unfolding speech_u speech_uat
+  unfolding speech_u speech_u_at
   parity_bits k h =
       let e : 91 + k - 91 ≡ k = omega arith in
-      at_tab 189 (speech_uat d (speech_p d)) (91 + k) (omega arith)
+      at_tab 189 (speech_u_at d (speech_p d)) (91 + k) (omega arith)
       ∙ rw (le-ltb (91 + k) 91 (omega arith), lt-ltb (91 + k) 94 (omega arith), e)
 
   -- u(185)..u(188) = 0
   pub tail_bits : (k : ℕ) → k ≤ 3 → get_or (speech_u d) (185 + k) 0 ≡ 0
-  unfolding speech_u speech_uat
+  unfolding speech_u speech_u_at
   tail_bits k h =
-      at_tab 189 (speech_uat d (speech_p d)) (185 + k) (omega arith)
+      at_tab 189 (speech_u_at d (speech_p d)) (185 + k) (omega arith)
       ∙ rw (le-ltb (185 + k) 91 (omega arith), le-ltb (185 + k) 94 (omega arith), le-ltb (185 + k) 185 (omega arith))
 
   -- ---- 000, 4.1.4, 4.1.5: bit k of the control block stands in burst k mod 4 at e(e_at k), and all flags are 1

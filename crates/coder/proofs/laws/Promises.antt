@@ -1,6 +1,6 @@
 -- The promises are kept: an entry that is given what it should be sends its block, and it comes back where t bits are altered and m missing, 2t + m at
 -- most 6. Demand 3 follows: with none missing, t is at most three.
-use Rattle.std.specs.Prelude.{List, ◌++◌, ◌≡◌, refl, ℕ, ◌+◌, ◌*◌, ◌≤◌, ◌<◌, ◌^◌, length, take, drop}
+use Rattle.std.specs.Prelude.{List, ◌++◌, ◌≡◌, refl, ℕ, ◌+◌, ◌*◌, ◌≤◌, ◌<◌, ◌^◌, length, take, drop, Ok, Err}
 use Rattle.std.proofs.Common.{sym, ap, ◌∙◌, subst, arith, lit≤}
 use Rattle.bits.specs.Bits.{Bits, given_bits, missing, digits, value}
 use Rattle.bits.proofs.laws.Missing.{given_same, given_drop, missing_take}
@@ -10,11 +10,7 @@ use Rattle.places.specs.Places.{gathered_at, gathered}
 use Rattle.parity.specs.Division.{control_g, access_g, sch_g}
 use Rattle.trellis.specs.Nearest.{Found, disagreements, longest}
 use Rattle.convolution.specs.Pairs.{coded}
-use Rattle.answers.specs.Answers.{Answer, of_told, of_heard}
-use Rattle.answers.specs.declared.Heard.{Heard}
-use Rattle.answers.specs.declared.Heard.TheVariants.{Good, Bad}
-use Rattle.answers.specs.declared.Told.{Told}
-use Rattle.answers.specs.declared.Told.TheVariants.{Done}
+use Rattle.answers.specs.Answers.{Answer, of_told, of_heard, Told, Heard}
 use Rattle.coder.specs.Blocks.{control_block, sacch_message, access_burst, sch_burst, speech_block}
 use Rattle.coder.specs.Entries.{Given, entry, speech_sent, control_sent, sacch_sent, access_sent, sch_sent}
 use Rattle.coder.specs.Received.{Hearing, block_heard, speech_heard, reception, speech_received, control_received, sacch_received, access_received, sch_received}
@@ -26,13 +22,14 @@ use Rattle.coder.proofs.laws.Entries.{sends}
 use Rattle.coder.proofs.laws.Heard.{hears_good, hears_bad}
 use Rattle.coder.proofs.laws.Hearings.{control_codes, access_codes, sch_codes, message_holds, speech_hearing}
 use Rattle.coder.proofs.laws.Restored.{coloured, bears_few, restored_bits, restored_count, restored_good, restored_bad}
+use Rattle.answers.specs.declared.Unheard.TheVariants as unheard
 
 -- ---- the two answers, and what they are in 01's numbers and counts
 abbrev accepted : ℕ → List ℕ → Answer Heard
-accepted count bits = record { result = Good count; left = bits }
+accepted count bits = record { result = Ok count; left = bits }
 
 abbrev found_bad : ℕ → List ℕ → Answer Heard
-found_bad count before = record { result = Bad count; left = before }
+found_bad count before = record { result = Err (unheard.Bad count); left = before }
 
 pub accepts : (a : Answer Heard) (count : ℕ) (bits : List ℕ) → a ≡ accepted count bits → Accepts a count bits
 accepts a count bits e = (ap (λ (x : Answer Heard). of_heard x.result) e, ap (λ (x : Answer Heard). x.left) e)
@@ -76,7 +73,7 @@ module _ (g : List ℕ) (i n m : ℕ) (d e out c : List ℕ) (bd : Bits d) (ld :
 module _ (g : List ℕ) (i n m : ℕ) (block protected : List ℕ → List ℕ)
     (codes : (d : List ℕ) → length d ≡ n → Bits d → protected (block d) ≡ coded (coloured g (digits (length g) i) d)) (h : i ≤ 63)
     (d c e out : List ℕ) (gd : Given 1 n m d c) (ge : Given 2 m n e out) where
-  sent : entry n m i d (block d) c ≡ record { result = Done; left = block d }
+  sent : entry n m i d (block d) c ≡ record { result = (Ok tt); left = block d }
   sent = sends n m i d c h gd (block d)
 
   pub sent_coded : protected (entry n m i d (block d) c).left ≡ coded (coloured g (digits (length g) i) d)

@@ -10,7 +10,7 @@ use Rattle.bits.specs.Bits.{tab}
 use Rattle.bits.proofs.laws.Cases.{lt_or_le}
 use Rattle.bits.proofs.laws.Parts.{put, put_before, put_within, put_behind, length_lent, length_put}
 use Rattle.bits.proofs.laws.Tab.{is_tab}
-use Rattle.coder.specs.Blocks.{speech_uat}
+use Rattle.coder.specs.Blocks.{speech_u_at}
 use Rattle.coder.specs.laws.Reordered.{Reordered}
 
 pub reordered_none : (d u : List ℕ) → length u ≡ 189 → Reordered d 0 u
@@ -67,23 +67,23 @@ module _ (d p u : List ℕ) (lp : length p ≡ 3) (r : Reordered d 91 u) where
   front : (k : ℕ) → k < 185 → get_or w k 0 ≡ get_or v k 0
   front k h = put_before v (replicate 4 0) 185 4 (omega (arith, long_v)) refl k h
 
-  even_place : (k : ℕ) → k < 91 → get_or w k 0 ≡ speech_uat d p k
-  unfolding speech_uat
+  even_place : (k : ℕ) → k < 91 → get_or w k 0 ≡ speech_u_at d p k
+  unfolding speech_u_at
   even_place k h =
       front k (omega arith)
       ∙ put_before u p 91 3 (omega (arith, r.long)) lp k h
       ∙ r.even k h
       ∙ rw (lt-ltb k 91 h)
 
-  parity_place : (k : ℕ) → 91 ≤ k → k < 94 → get_or w k 0 ≡ speech_uat d p k
-  unfolding speech_uat
+  parity_place : (k : ℕ) → 91 ≤ k → k < 94 → get_or w k 0 ≡ speech_u_at d p k
+  unfolding speech_u_at
   parity_place k g h =
       front k (omega arith)
       ∙ put_within u p 91 3 (omega (arith, r.long)) lp (k - 91) k (omega arith) (omega arith)
       ∙ rw (le-ltb k 91 g, lt-ltb k 94 h)
 
-  odd_place : (k : ℕ) → 94 ≤ k → k < 185 → get_or w k 0 ≡ speech_uat d p k
-  unfolding speech_uat
+  odd_place : (k : ℕ) → 94 ≤ k → k < 185 → get_or w k 0 ≡ speech_u_at d p k
+  unfolding speech_u_at
   odd_place k g h =
       let i : ℕ = 184 - k in
       let e : 184 - i ≡ k = omega arith in
@@ -93,14 +93,14 @@ module _ (d p u : List ℕ) (lp : length p ≡ 3) (r : Reordered d 91 u) where
       ∙ r.odd i (omega arith)
       ∙ rw (le-ltb k 91 (omega arith), le-ltb k 94 g, lt-ltb k 185 h)
 
-  zero_place : (k : ℕ) → 185 ≤ k → k < 189 → get_or w k 0 ≡ speech_uat d p k
-  unfolding speech_uat
+  zero_place : (k : ℕ) → 185 ≤ k → k < 189 → get_or w k 0 ≡ speech_u_at d p k
+  unfolding speech_u_at
   zero_place k g h =
       put_within v (replicate 4 0) 185 4 (omega (arith, long_v)) refl (k - 185) k (omega arith) (omega arith)
       ∙ get_or-replicate 4 (k - 185) 0 0 (omega arith)
       ∙ rw (le-ltb k 91 (omega arith), le-ltb k 94 (omega arith), le-ltb k 185 g)
 
-  placed : (k : ℕ) → k < 189 → get_or w k 0 ≡ speech_uat d p k
+  placed : (k : ℕ) → k < 189 → get_or w k 0 ≡ speech_u_at d p k
   placed k h =
       ⊎_elim (even_place k)
       (λ (a : 91 ≤ k). ⊎_elim (parity_place k a)
@@ -108,11 +108,11 @@ module _ (d p u : List ℕ) (lp : length p ≡ 3) (r : Reordered d 91 u) where
       (lt_or_le k 94))
       (lt_or_le k 91)
 
-  whole_u : w ≡ tab 189 (speech_uat d p)
-  whole_u = is_tab 189 (speech_uat d p) w long_w placed
+  whole_u : w ≡ tab 189 (speech_u_at d p)
+  whole_u = is_tab 189 (speech_u_at d p) w long_w placed
 
   -- the parity and the zeros as they come back
-  pub u_filled : (y z : List ℕ) → y ≡ p → z ≡ replicate (length (take 4 (drop 185 (put 91 3 y u)))) 0 → put 185 4 z (put 91 3 y u) ≡ tab 189 (speech_uat d p)
+  pub u_filled : (y z : List ℕ) → y ≡ p → z ≡ replicate (length (take 4 (drop 185 (put 91 3 y u)))) 0 → put 185 4 z (put 91 3 y u) ≡ tab 189 (speech_u_at d p)
   u_filled y z ey ez =
       let l : length (put 91 3 y u) ≡ 189 = ap (λ (x : List ℕ). length (put 91 3 x u)) ey ∙ long_v in
       let n = length_lent (put 91 3 y u) 185 4 (omega (arith, l)) in

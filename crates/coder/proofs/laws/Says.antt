@@ -1,5 +1,5 @@
 -- What each entry answers is what Says has: the refusals by their numbers, what is sent, and THE nearest block of what is received.
-use Rattle.std.specs.Prelude.{Bool, false, List, ◌++◌, ℕ, ◌+◌, ◌/◌, ◌%◌, ◌≤◌, ◌<◌, eqb, leb, length, take, drop}
+use Rattle.std.specs.Prelude.{Bool, false, List, ◌++◌, ℕ, ◌+◌, ◌/◌, ◌%◌, ◌≤◌, ◌<◌, eqb, leb, length, take, drop, None, Some, Ok, Err}
 use Rattle.std.proofs.Math.Bool.{true}
 use Rattle.std.proofs.Math.Path.{◌≡◌, refl, ap}
 use Rattle.std.proofs.Common.{sym, ◌∙◌, subst, lit≤}
@@ -16,14 +16,10 @@ use Rattle.parity.proofs.laws.Generators.{speech_number}
 use Rattle.trellis.specs.Nearest.{Nearest, nearest, nearest_count, longest, row}
 use Rattle.trellis.proofs.laws.Nearest.{nearest_is}
 use Rattle.places.specs.Places.{gathered}
-use Rattle.answers.specs.Answers.{Answer, Refuses, number_of, returned, of_told, of_heard, sent_or, tells, heard_or, hears}
-use Rattle.answers.specs.declared.Heard.{Heard}
-use Rattle.answers.specs.declared.Maybe.TheVariants.{None, Some}
+use Rattle.answers.specs.Answers.{Answer, Refuses, number_of, returned, of_told, of_heard, sent_or, tells, heard_or, hears, Told, Heard}
 use Rattle.answers.specs.declared.Refusal.{Refusal}
 use Rattle.answers.specs.declared.Refusal.TheVariants.{Length, NotBits, Identity}
 use Rattle.answers.specs.declared.Returned.{Returned}
-use Rattle.answers.specs.declared.Told.{Told}
-use Rattle.answers.specs.declared.Told.TheVariants.{Done, Refused}
 use Rattle.coder.specs.Blocks.{speech_block, control_block, sacch_message, access_burst, sch_burst}
 use Rattle.coder.specs.Entries.{judged, lengths, Given, entry, view_length, unreached, speech_sent, control_sent, sacch_sent, access_sent, sch_sent, trellis_viewed}
 use Rattle.coder.specs.Received.{Hearing, block_heard, speech_heard, judged_hearing, reception, speech_received, control_received, sacch_received, access_received, sch_received}
@@ -40,22 +36,22 @@ module _ (most n m i : ℕ) (d c : List ℕ) where
   abbrev pub told : Told
   told = judged (lengths d n c m) (none_over most d) (leb i 63)
 
-  pub is_one : ((length d ≡ n) × (length c ≡ m) → ⊥) → told ≡ Refused Length
+  pub is_one : ((length d ≡ n) × (length c ≡ m) → ⊥) → told ≡ Err Length
   unfolding judged
   is_one h =
       let both_right : lengths d n c m ≡ true → ⊥ = λ (e : lengths d n c m ≡ true).
       h (eqb-true (length d) n (both_first (eqb (length d) n) (eqb (length c) m) e), eqb-true (length c) m (both_second (eqb (length d) n) (eqb (length c) m) e)) in
       rw (not_true (lengths d n c m) both_right) refl
 
-  pub is_two : length d ≡ n → length c ≡ m → (NoneOver most d → ⊥) → told ≡ Refused NotBits
+  pub is_two : length d ≡ n → length c ≡ m → (NoneOver most d → ⊥) → told ≡ Err NotBits
   unfolding judged
   is_two reads lends h = rw (eq-eqb (length d) n reads, eq-eqb (length c) m lends, not_true (none_over most d) (λ (e : none_over most d ≡ true). h (none_over_lem most d e))) refl
 
-  is_three : Given most n m d c → 63 < i → told ≡ Refused Identity
+  is_three : Given most n m d c → 63 < i → told ≡ Err Identity
   unfolding judged
   is_three g h = rw (eq-eqb (length d) n g.reads, eq-eqb (length c) m g.lends, over_none most d g.bits, lt-leb i 63 h) refl
 
-  pub refusing : {A : Type 0} (of : A → Returned) (a : Answer A) → ((x : Refusal) → told ≡ Refused x → Refuses of a (number_of x) c) → Refusing of a most n m i d c
+  pub refusing : {A : Type 0} (of : A → Returned) (a : Answer A) → ((x : Refusal) → told ≡ Err x → Refuses of a (number_of x) c) → Refusing of a most n m i d c
   refusing of a says = record {
     one = λ h. says Length (is_one h);
     two = λ reads lends h. says NotBits (is_two reads lends h);
@@ -63,9 +59,9 @@ module _ (most n m i : ℕ) (d c : List ℕ) where
   }
 
 -- ---- sending
-pub told_done : (t : Told) → of_told t ≡ returned None None → t ≡ Done
-told_done Done e = refl
-told_done (Refused x) e = let f : Some (number_of x) ≡ None = ap (λ (r : Returned). r.number) e in let z : ◌≡◌ {A = ℕ} 0 1 = cc in let w : ⊥ = omega arith in absurd w
+pub told_done : (t : Told) → of_told t ≡ returned None None → t ≡ (Ok tt)
+told_done (Ok tt) e = refl
+told_done (Err x) e = let f : Some (number_of x) ≡ None = ap (λ (r : Returned). r.number) e in let z : ◌≡◌ {A = ℕ} 0 1 = cc in let w : ⊥ = omega arith in absurd w
 
 pub sends_as : (n m i : ℕ) (d sent c : List ℕ) → Sends (entry n m i d sent c) n m i d sent c
 unfolding entry tells sent_or
@@ -74,7 +70,7 @@ sends_as n m i d sent c =
     record {
       refused = refusing 1 n m i d c of_told (entry n m i d sent c) (λ x e. (ap of_told e, ap (λ (y : Told). sent_or y sent c) e));
       done = λ g h. let e = sends n m i d c h g sent in (ap (λ (a : Answer Told). of_told a.result) e, ap (λ (a : Answer Told). a.left) e);
-      only = λ e. let f : t ≡ Done = told_done t e in (done_given 1 d c n m i t refl f, done_identity 1 d c n m i t refl f);
+      only = λ e. let f : t ≡ (Ok tt) = told_done t e in (done_given 1 d c n m i t refl f, done_identity 1 d c n m i t refl f);
     }
 
 pub speech_sends : SpeechSends
@@ -168,17 +164,17 @@ speech_decodes c = decodes (speech_heard c) (take 378 c) 189 speech_g speech_wor
 
 -- ---- receiving
 module _ (n m i : ℕ) (c d : List ℕ) (h : Hearing) where
-  refused_as : (x : Refusal) → told 2 n m i c d ≡ Refused x → Refuses of_heard (reception n m i c h d) (number_of x) d
+  refused_as : (x : Refusal) → told 2 n m i c d ≡ Err x → Refuses of_heard (reception n m i c h d) (number_of x) d
   unfolding reception judged_hearing hears heard_or
   refused_as x e = (ap (λ (y : Told). of_heard (judged_hearing y h)) e, ap (λ (y : Told). heard_or (judged_hearing y h) h.bits d) e)
 
   -- a refusal has no count
-  counted : (t : Told) (k : ℕ) → (of_heard (judged_hearing t h)).count ≡ Some k → t ≡ Done
+  counted : (t : Told) (k : ℕ) → (of_heard (judged_hearing t h)).count ≡ Some k → t ≡ (Ok tt)
   unfolding judged_hearing
-  counted Done k e = refl
-  counted (Refused x) k e = let z : ◌≡◌ {A = ℕ} 0 1 = cc in let w : ⊥ = omega arith in absurd w
+  counted (Ok tt) k e = refl
+  counted (Err x) k e = let z : ◌≡◌ {A = ℕ} 0 1 = cc in let w : ⊥ = omega arith in absurd w
 
-  count_only : (k : ℕ) → (of_heard (reception n m i c h d).result).count ≡ Some k → told 2 n m i c d ≡ Done
+  count_only : (k : ℕ) → (of_heard (reception n m i c h d).result).count ≡ Some k → told 2 n m i c d ≡ (Ok tt)
   unfolding reception hears
   count_only k e = counted (told 2 n m i c d) k e
 

@@ -3,8 +3,7 @@ use Rattle.std.specs.Prelude.{List, ◌≡◌, ℕ}
 use Rattle.std.proofs.Common.{sym, ◌∙◌}
 use Rattle.answers.proofs.laws.Answers.{Settled, meets_once}
 use Rattle.coder.specs.Entries.{speech_sent, control_sent, sacch_sent, access_sent, sch_sent, trellis_viewed}
-use Rattle.coder.specs.Whose.{access_whose, any_access_received}
-use Rattle.coder.specs.declared.Whose.{Whose}
+use Rattle.coder.specs.Whose.{Whose, access_whose, any_access_received}
 use Rattle.coder.specs.Received.{speech_received, control_received, sacch_received, access_received, sch_received}
 
 module _ (identity : ℕ) (d c : List ℕ) where

@@ -16,7 +16,7 @@ use Rattle.parity.proofs.laws.Division.{length_parity, bits_parity}
 use Rattle.parity.proofs.laws.Generators.{speech_number}
 use Rattle.convolution.specs.Pairs.{coded}
 use Rattle.convolution.proofs.laws.Pairs.{length_coded}
-use Rattle.coder.specs.Blocks.{speech_p, speech_uat, speech_u, speech_block}
+use Rattle.coder.specs.Blocks.{speech_p, speech_u_at, speech_u, speech_block}
 
 -- ---- the parity of the first 50 bits
 module _ (d : List ℕ) (bd : Bits d) (ld : length d ≡ 260) where
@@ -49,8 +49,8 @@ module _ (d : List ℕ) (bd : Bits d) (ld : length d ≡ 260) where
   either true x y h l = h
   either false x y h l = l
 
-  bits_at : (p : List ℕ) → Bits p → (k : ℕ) → speech_uat d p k ≤ 1
-  unfolding speech_uat
+  bits_at : (p : List ℕ) → Bits p → (k : ℕ) → speech_u_at d p k ≤ 1
+  unfolding speech_u_at
   bits_at p bp k =
       either (ltb k 91) (get_or d (2 * k) 0) (pick (ltb k 94) (get_or p (k - 91) 0) (pick (ltb k 185) (get_or d (2 * (184 - k) + 1) 0) 0)) (bd (2 * k))
       (either (ltb k 94) (get_or p (k - 91) 0) (pick (ltb k 185) (get_or d (2 * (184 - k) + 1) 0) 0) (bp (k - 91))
@@ -62,15 +62,15 @@ module _ (d : List ℕ) (bd : Bits d) (ld : length d ≡ 260) where
 
   pub bits_u : Bits (speech_u d)
   unfolding speech_u
-  bits_u = bits_tab 189 (speech_uat d (speech_p d)) (bits_at (speech_p d) bits_p)
+  bits_u = bits_tab 189 (speech_u_at d (speech_p d)) (bits_at (speech_p d) bits_p)
 
   pub length_u : length (speech_u d) ≡ 189
   unfolding speech_u
-  length_u = length_tab 189 (speech_uat d (speech_p d))
+  length_u = length_tab 189 (speech_u_at d (speech_p d))
 
-  pub filled_u : (p u : List ℕ) → p ≡ speech_p d → u ≡ tab 189 (speech_uat d p) → u ≡ speech_u d
+  pub filled_u : (p u : List ℕ) → p ≡ speech_p d → u ≡ tab 189 (speech_u_at d p) → u ≡ speech_u d
   unfolding speech_u
-  filled_u p u ep eu = eu ∙ ap (λ (q : List ℕ). tab 189 (speech_uat d q)) ep
+  filled_u p u ep eu = eu ∙ ap (λ (q : List ℕ). tab 189 (speech_u_at d q)) ep
 
   -- ---- the pairs, and class 2
   pub coded_asked : (c u : List ℕ) → length c ≡ 456 → u ≡ speech_u d → Bits u × (length (take 378 c) ≡ 2 * length u)

@@ -16,25 +16,25 @@ use Rattle.parity.specs.Division.{remainder, speech_g}
 use Rattle.parity.proofs.laws.Generators.{speech_number}
 use Rattle.trellis.specs.Nearest.{Candidate, nearest, nearest_count}
 use Rattle.trellis.proofs.laws.Nearest.{nearest_is}
-use Rattle.coder.specs.Received.{all_ones, speech_dat, speech_heard}
+use Rattle.coder.specs.Received.{all_ones, speech_d_at, speech_heard}
 use Rattle.coder.proofs.laws.Heard.{value_ones}
 
 -- ---- d by twos: d(2k) = u(k) and d(2k+1) = u(184-k)
-pub d_even : (u : List ℕ) (k : ℕ) → speech_dat u (2 * k) ≡ get_or u k 0
-unfolding speech_dat
+pub d_even : (u : List ℕ) (k : ℕ) → speech_d_at u (2 * k) ≡ get_or u k 0
+unfolding speech_d_at
 d_even u k = even_place (λ i. get_or u i 0) (λ i. get_or u (184 - i) 0) k
 
-pub d_odd : (u : List ℕ) (k : ℕ) → speech_dat u (2 * k + 1) ≡ get_or u (184 - k) 0
-unfolding speech_dat
+pub d_odd : (u : List ℕ) (k : ℕ) → speech_d_at u (2 * k + 1) ≡ get_or u (184 - k) 0
+unfolding speech_d_at
 d_odd u k = odd_place (λ i. get_or u i 0) (λ i. get_or u (184 - i) 0) k
 
 either : (b : Bool) (x y : ℕ) → x ≤ 1 → y ≤ 1 → pick b x y ≤ 1
 either true x y h l = h
 either false x y h l = l
 
-pub bits_d : (u : List ℕ) → Bits u → Bits (tab 182 (speech_dat u))
-unfolding speech_dat
-bits_d u bu = bits_tab 182 (speech_dat u) (λ j. either (eqb (j % 2) 0) (get_or u (j / 2) 0) (get_or u (184 - j / 2) 0) (bu (j / 2)) (bu (184 - j / 2)))
+pub bits_d : (u : List ℕ) → Bits u → Bits (tab 182 (speech_d_at u))
+unfolding speech_d_at
+bits_d u bu = bits_tab 182 (speech_d_at u) (λ j. either (eqb (j % 2) 0) (get_or u (j / 2) 0) (get_or u (184 - j / 2) 0) (bu (j / 2)) (bu (184 - j / 2)))
 
 -- ---- 50 bits and 3
 pub laid_check : (d u e x y : List ℕ) → length d ≡ 182 → length e ≡ 53 → x ≡ take 50 d → y ≡ take 3 (drop 91 u) → put 50 3 y (put 0 50 x e) ≡ take 50 d ++ take 3 (drop 91 u)
@@ -67,7 +67,7 @@ laid_speech f c e x y lf lc le ex ey =
     put_two e x y 182 78 182 (ap length ex ∙ lf) refl le ∙ ap₂ (λ (a b : List ℕ). a ++ b) ex (ey ∙ ap given_bits all)
 
 -- ---- the nearest block, which stands at the front of x; its protected bits f; the verdict
-module _ (c rest x v f : List ℕ) (lc : length c ≡ 456) (ex : x ≡ nearest (take 378 c) 189 ++ rest) (cut : v ≡ take 189 x) (ef : f ≡ tab 182 (speech_dat v)) where
+module _ (c rest x v f : List ℕ) (lc : length c ≡ 456) (ex : x ≡ nearest (take 378 c) 189 ++ rest) (cut : v ≡ take 189 x) (ef : f ≡ tab 182 (speech_d_at v)) where
   candidate : Candidate 189 (nearest (take 378 c) 189)
   candidate = (nearest_is (take 378 c) 189 (lit≤ tt) (lit≤ tt)).candidate
 
@@ -84,10 +84,10 @@ module _ (c rest x v f : List ℕ) (lc : length c ≡ 456) (ex : x ≡ nearest (
   bits_f = subst Bits (sym ef) (bits_d v bits_v)
 
   pub long_f : length f ≡ 182
-  long_f = ap length ef ∙ length_tab 182 (speech_dat v)
+  long_f = ap length ef ∙ length_tab 182 (speech_d_at v)
 
-  firsts : f ≡ tab 182 (speech_dat (nearest (take 378 c) 189))
-  firsts = ef ∙ ap (λ (x : List ℕ). tab 182 (speech_dat x)) ev
+  firsts : f ≡ tab 182 (speech_d_at (nearest (take 378 c) 189))
+  firsts = ef ∙ ap (λ (x : List ℕ). tab 182 (speech_d_at x)) ev
 
   pub speech_is : (t : Bool) → t ≡ all_ones speech_g (take 50 f ++ take 3 (drop 91 v)) → t ≡ (speech_heard c).good
   unfolding speech_heard

@@ -21,14 +21,14 @@ use Rattle.parity.proofs.laws.Generators.{speech_number}
 use Rattle.trellis.specs.Nearest.{Candidate, Found, disagreements}
 use Rattle.convolution.specs.Pairs.{coded}
 use Rattle.coder.specs.Blocks.{speech_p, speech_u}
-use Rattle.coder.specs.Received.{all_ones, speech_dat, speech_heard}
+use Rattle.coder.specs.Received.{all_ones, speech_d_at, speech_heard}
 use Rattle.coder.proofs.laws.Order.{even_bits, odd_bits, parity_bits, tail_bits}
 use Rattle.coder.proofs.laws.Speech.{bits_u, length_u}
 
 module _ (d : List ℕ) (ld : length d ≡ 260) (bd : Bits d) where
   -- d(2k) = u(k) and d(2k+1) = u(184-k): what b) of 000, 3.1.2.1 laid out is laid back
-  laid_back : (k : ℕ) → k < 182 → get_or (take 182 d) k 0 ≡ speech_dat (speech_u d) k
-  unfolding speech_dat
+  laid_back : (k : ℕ) → k < 182 → get_or (take 182 d) k 0 ≡ speech_d_at (speech_u d) k
+  unfolding speech_d_at
   laid_back k h =
       get_or-take 182 d k 0 h
       ∙ ⊎_elim (λ (l : k % 2 < 1). let e : 2 * (k / 2) ≡ k = omega arith in
@@ -37,8 +37,8 @@ module _ (d : List ℕ) (ld : length d ≡ 260) (bd : Bits d) where
       rw (ne_eqb (k % 2) 0 (λ (z : k % 2 ≡ 0). omega arith)) (sym (odd_bits d (k / 2) (omega arith) ∙ ap (λ (x : ℕ). get_or d x 0) e)))
       (lt_or_le (k % 2) 1)
 
-  pub first_bits : tab 182 (speech_dat (speech_u d)) ≡ take 182 d
-  first_bits = sym (is_tab 182 (speech_dat (speech_u d)) (take 182 d) (length-take-le 182 d (omega (arith, ld))) laid_back)
+  pub first_bits : tab 182 (speech_d_at (speech_u d)) ≡ take 182 d
+  first_bits = sym (is_tab 182 (speech_d_at (speech_u d)) (take 182 d) (length-take-le 182 d (omega (arith, ld))) laid_back)
 
   parity_long : length (speech_p d) ≡ 3
   unfolding speech_p
@@ -68,11 +68,11 @@ module _ (d : List ℕ) (ld : length d ≡ 260) (bd : Bits d) where
 
     pub speech_bits : (speech_heard c).bits ≡ take 182 d ++ given_bits (drop 378 c)
     unfolding speech_heard
-    speech_bits = ap (λ (u : List ℕ). tab 182 (speech_dat u) ++ given_bits (drop 378 c)) found.0 ∙ ap (λ (x : List ℕ). x ++ given_bits (drop 378 c)) first_bits
+    speech_bits = ap (λ (u : List ℕ). tab 182 (speech_d_at u) ++ given_bits (drop 378 c)) found.0 ∙ ap (λ (x : List ℕ). x ++ given_bits (drop 378 c)) first_bits
 
     pub speech_good : (speech_heard c).good ≡ true
     unfolding speech_heard all_ones speech_p
     speech_good =
-        ap (λ (u : List ℕ). all_ones speech_g (take 50 (tab 182 (speech_dat u)) ++ take 3 (drop 91 u))) found.0
+        ap (λ (u : List ℕ). all_ones speech_g (take 50 (tab 182 (speech_d_at u)) ++ take 3 (drop 91 u))) found.0
         ∙ ap₂ (λ (x y : List ℕ). all_ones speech_g (x ++ y)) (ap (take 50) first_bits ∙ take-take 50 182 d (lit≤ tt)) middle
         ∙ eq-eqb (value (remainder speech_g (take 50 d ++ speech_p d))) (value (ones (length speech_g))) (ap value (parity_leaves speech_g (take 50 d) (bits_take 50 d bd)))

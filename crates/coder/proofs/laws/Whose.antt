@@ -1,6 +1,6 @@
 -- The identity that a block names is the one under which its parity is good, once over the generator and the length. So the access entry accepts under it and
 -- under no other, and it is the sender's where few bits are altered or missing.
-use Rattle.std.specs.Prelude.{Bool, false, leb, drop}
+use Rattle.std.specs.Prelude.{Bool, false, leb, drop, None, Some, Ok, Err}
 use Rattle.std.proofs.Math.Bool.{true}
 use mathlib.Core.List.{List, ◌++◌}
 use Rattle.std.proofs.Math.Path.{◌≡◌, refl, sym, ap, ap₂, subst}
@@ -21,30 +21,25 @@ use Rattle.parity.proofs.laws.Division.{length_parity, bits_parity, parity_turne
 use Rattle.parity.proofs.laws.Generators.{access_number}
 use Rattle.trellis.specs.Nearest.{Candidate, Nearest, nearest, nearest_count, longest}
 use Rattle.trellis.proofs.laws.Nearest.{nearest_is}
-use Rattle.answers.specs.Answers.{Answer, Meets, number_of, or_none, of_heard}
-use Rattle.answers.specs.declared.Maybe.TheVariants.{None, Some}
+use Rattle.answers.specs.Answers.{Answer, Meets, number_of, or_none, of_heard, Told}
 use Rattle.answers.specs.declared.Refusal.{Refusal}
 use Rattle.answers.specs.declared.Refusal.TheVariants.{Length, NotBits}
 use Rattle.answers.specs.declared.Returned.{Returned}
-use Rattle.answers.specs.declared.Told.{Told}
 use Rattle.coder.specs.Entries.{judged, lengths, Given, access_sent}
 use Rattle.coder.specs.Received.{all_ones, block_heard, access_received}
 use Rattle.coder.specs.Says.{Accepts}
 use Rattle.coder.specs.Promises.{altered, whole}
-use Rattle.coder.specs.Whose.{Naming, block_named, naming, access_whose, any_access_received, of_whose, identity_of, Tells, Names, NearestNames, WhoseSays, Hands, HandsOver, AnyAccessSays, TheOne, ReasonIsTrue, WhoAcceptsIsNamed, SenderPromise, SenderBears}
-use Rattle.coder.specs.declared.Whose.{Whose}
-use Rattle.coder.specs.declared.Whose.TheVariants.{Named, Refused}
-use Rattle.coder.specs.declared.block.Format.{Format}
+use Rattle.coder.specs.Whose.{Naming, block_named, naming, access_whose, any_access_received, Whose, named, of_whose, identity_of, Tells, Names, NearestNames, WhoseSays, Hands, HandsOver, AnyAccessSays, TheOne, ReasonIsTrue, WhoAcceptsIsNamed, SenderPromise, SenderBears}
+use Rattle.coder.specs.declared.format.Format.{Format}
 use Rattle.coder.proofs.laws.Blocks.{access_long}
 use Rattle.coder.proofs.laws.Entries.{done_held, done_given, done}
-use Rattle.coder.specs.laws.Format.{Fits, size, generator_of}
-use Rattle.coder.proofs.laws.Heard.{value_ones, found, divided, same_size, reception_refused, hears_good, hears_bad}
+use Rattle.coder.specs.laws.Format.{size, generator_of}
+use Rattle.coder.proofs.laws.Heard.{value_ones, found, front, divided, same_size, reception_refused, hears_good, hears_bad}
 use Rattle.coder.proofs.laws.Promises.{accepts, finds_bad, access_bears}
 use Rattle.coder.proofs.laws.Restored.{same_colour, other_colour}
 use Rattle.coder.proofs.laws.Says.{told, is_one, is_two, access_receives}
-use Rattle.answers.specs.declared.Heard.TheVariants as heard
-use Rattle.answers.specs.declared.Told.TheVariants as told
 use Rattle.coder.specs.laws.Whose.{block_bits}
+use Rattle.answers.specs.declared.Unheard.TheVariants as unheard
 
 -- ---- the parity bits q after d, to which a colour is added: the colour that they name is theirs
 module _ (g d q : List ℕ) (lq : length q ≡ length g) (bd : Bits d) (bq : Bits q) where
@@ -136,7 +131,7 @@ module _ (g : List ℕ) (n : ℕ) (c : List ℕ) (short : n + length g + 4 ≤ l
   named_count j = refl
 
 -- ---- what `coder::block::name` works out of the nearest block, which stands at the front of v
-module _ (f : Format) (c rest v : List ℕ) (fits : Fits f) (ev : v ≡ nearest c (size f) ++ rest) where
+module _ (f : Format) (c rest v : List ℕ) (ev : v ≡ nearest c (size f) ++ rest) where
   pub name_is : (k x : ℕ) → k ≡ f.bits + f.degree → x ≡ bit_xor (value (remainder (generator_of f) (take k v))) (2 ^ f.degree - 1)
       → x ≡ (block_named (generator_of f) f.bits c).identity
   unfolding block_named
@@ -145,10 +140,10 @@ module _ (f : Format) (c rest v : List ℕ) (fits : Fits f) (ev : v ≡ nearest 
       let n = f.bits in
       let u : List ℕ = nearest c (size f) in
       let q : List ℕ = take (length g) (drop n u) in
-      let is = found f c rest v fits ev in
+      let is = found f c rest v ev in
       let lg : length g ≡ f.degree = length_digits f.degree f.generator in
       let lq : length q ≡ length g = length_lent u n (length g) (omega (arith, is.long, lg)) in
-      let both-parts : take n u ++ q ≡ take k v = sym (take-add n (length g) u) ∙ ap (λ (j : ℕ). take (n + j) u) lg ∙ sym (divided f c rest v fits ev k ek) in
+      let both-parts : take n u ++ q ≡ take k v = sym (take-add n (length g) u) ∙ ap (λ (j : ℕ). take (n + j) u) lg ∙ sym (divided f c rest v ev k ek) in
       e
       ∙ ap₂ (λ (w : List ℕ) (j : ℕ). bit_xor (value (remainder g w)) (2 ^ j - 1)) (sym both-parts) (sym lg)
       ∙ turned g (take n u) q lq (bits_take n u is.bits) (bits_take (length g) (drop n u) (bits_drop n u is.bits))
@@ -158,7 +153,7 @@ module _ (f : Format) (c rest v : List ℕ) (fits : Fits f) (ev : v ≡ nearest 
   pub name_fits : f.degree ≤ 8 → (x : ℕ) → x ≡ (block_named (generator_of f) f.bits c).identity → x < 256
   name_fits narrow x e =
       let g : List ℕ = generator_of f in
-      let short : f.bits + length g + 4 ≤ longest = omega (arith, same_size f, fits.short) in
+      let short : f.bits + length g + 4 ≤ longest = omega (arith, same_size f, f.short) in
       let below : x < 2 ^ f.degree = subst (λ (n : ℕ). x < 2 ^ n) (length_digits f.degree f.generator) (subst (λ (y : ℕ). y < 2 ^ length g) (sym e) (named_below g f.bits c short)) in
       let most : 2 ^ f.degree ≤ 2 ^ 8 = pow_mono narrow in
       omega (arith, below, most)
@@ -166,6 +161,10 @@ module _ (f : Format) (c rest v : List ℕ) (fits : Fits f) (ev : v ≡ nearest 
   pub name_count : (k : ℕ) → k ≡ nearest_count c (size f) → k ≡ (block_named (generator_of f) f.bits c).count
   unfolding block_named
   name_count k e = e ∙ ap (nearest_count c) (sym (same_size f))
+
+  pub front_bits : take f.bits v ≡ block_bits (generator_of f) f.bits c
+  unfolding block_bits
+  front_bits = front f c rest v ev f.bits (omega arith) ∙ ap (λ (j : ℕ). take f.bits (nearest c j)) (sym (same_size f))
 
 pub same_bits : (g : List ℕ) (j n : ℕ) (c : List ℕ) → (block_heard g j n c).bits ≡ block_bits g n c
 unfolding block_heard block_bits
@@ -181,11 +180,11 @@ module _ (e : List ℕ) (t : Told) (f : t ≡ judged (both (eqb (length e) 36) t
   unfolding access_whose
   whose_as = ap (λ (x : Told). naming x (block_named access_g 8 e)) (f ∙ ap (λ (b : Bool). judged b (none_over 2 e) true) (both_true (eqb (length e) 36)))
 
-  pub whose_done : t ≡ told.Done → (w : Whose) → w ≡ naming told.Done (block_named (digits 6 0b101111) 8 e) → w ≡ access_whose e
+  pub whose_done : t ≡ (Ok tt) → (w : Whose) → w ≡ naming (Ok tt) (block_named (digits 6 0b101111) 8 e) → w ≡ access_whose e
   whose_done q w x =
-      x ∙ ap (λ (g : List ℕ). naming told.Done (block_named g 8 e)) access_number ∙ ap (λ (y : Told). naming y (block_named access_g 8 e)) (sym q) ∙ whose_as
+      x ∙ ap (λ (g : List ℕ). naming (Ok tt) (block_named g 8 e)) access_number ∙ ap (λ (y : Told). naming y (block_named access_g 8 e)) (sym q) ∙ whose_as
 
-  pub whose_refused : (r : Refusal) → t ≡ told.Refused r → Refused r ≡ access_whose e
+  pub whose_refused : (r : Refusal) → t ≡ Err r → Err r ≡ access_whose e
   unfolding naming
   whose_refused r q = ap (λ (y : Told). naming y (block_named access_g 8 e)) (sym q) ∙ whose_as
 
@@ -198,7 +197,7 @@ identity_within e =
     omega (arith, h)
 
 module _ (e : List ℕ) (le : length e ≡ 36) (se : Symbols e) where
-  named_as : access_whose e ≡ Named (block_named access_g 8 e).identity (block_named access_g 8 e).count
+  named_as : access_whose e ≡ Ok (named (block_named access_g 8 e).identity (block_named access_g 8 e).count)
   unfolding access_whose naming judged
   named_as = rw (eq-eqb (length e) 36 le, over_none 2 e se) refl
 
@@ -219,36 +218,36 @@ module _ (e out : List ℕ) where
     judged_so : t ≡ judged (lengths e 36 out 8) (none_over 2 e) (leb i 63)
     judged_so = f ∙ ap (judged (lengths e 36 out 8) (none_over 2 e)) (sym (le-leb i 63 (identity_within e)))
 
-    any_left_refused : (r : Refusal) → t ≡ told.Refused r → out ≡ (any_access_received e out).left
+    any_left_refused : (r : Refusal) → t ≡ Err r → out ≡ (any_access_received e out).left
     unfolding any_access_received access_received
     any_left_refused r q = (reception_refused 36 8 i e out (block_heard access_g i 8 e) t judged_so r q).left
 
-    pub any_refused : (r : Refusal) → t ≡ told.Refused r → Meets (any_access_received e out) (Refused r) out
+    pub any_refused : (r : Refusal) → t ≡ Err r → Meets (any_access_received e out) (Err r) out
     unfolding naming
     any_refused r q = record { result = ap (λ (y : Told). naming y (block_named access_g 8 e)) (sym q) ∙ any_as; left = any_left_refused r q }
 
   module _ (g : Given 2 36 8 e out) where
-    takes_it : access_received i e out ≡ record { result = heard.Good (block_named access_g 8 e).count; left = block_bits access_g 8 e }
+    takes_it : access_received i e out ≡ record { result = Ok (block_named access_g 8 e).count; left = block_bits access_g 8 e }
     unfolding access_received
     takes_it =
         hears_good 36 8 i e out (identity_within e) g (block_heard access_g i 8 e) (block_named access_g 8 e).count (named_count access_g 8 e access_short i)
         (block_bits access_g 8 e) (named_good access_g 8 e access_short) (same_bits access_g i 8 e)
 
-    refuses_it : (j : ℕ) → j ≤ 63 → (j ≡ i → ⊥) → access_received j e out ≡ record { result = heard.Bad (block_named access_g 8 e).count; left = out }
+    refuses_it : (j : ℕ) → j ≤ 63 → (j ≡ i → ⊥) → access_received j e out ≡ record { result = Err (unheard.Bad (block_named access_g 8 e).count); left = out }
     unfolding access_received
     refuses_it j h other =
         hears_bad 36 8 j e out h g (block_heard access_g j 8 e) (block_named access_g 8 e).count (named_count access_g 8 e access_short j)
         (other_bad access_g 8 e access_short j (subst (λ (n : ℕ). j < 2 ^ n) (sym access_long) (omega arith)) other)
 
-    pub hands_it : any_access_received e out ≡ record { result = Named i (block_named access_g 8 e).count; left = block_bits access_g 8 e }
+    pub hands_it : any_access_received e out ≡ record { result = Ok (named i (block_named access_g 8 e).count); left = block_bits access_g 8 e }
     unfolding any_access_received naming
     hands_it = rw (done 2 36 8 0 e out (lit≤ tt) g, takes_it) refl
 
-    pub any_done : (w : Whose) (after : List ℕ) → w ≡ naming told.Done (block_named (digits 6 0b101111) 8 e) → after ≡ block_bits (digits 6 0b101111) 8 e
+    pub any_done : (w : Whose) (after : List ℕ) → w ≡ naming (Ok tt) (block_named (digits 6 0b101111) 8 e) → after ≡ block_bits (digits 6 0b101111) 8 e
         → Meets (any_access_received e out) w after
     unfolding naming
     any_done w after x y = record {
-      result = x ∙ ap (λ (p : List ℕ). naming told.Done (block_named p 8 e)) access_number ∙ ap (λ (a : Answer Whose). a.result) (sym hands_it);
+      result = x ∙ ap (λ (p : List ℕ). naming (Ok tt) (block_named p 8 e)) access_number ∙ ap (λ (a : Answer Whose). a.result) (sym hands_it);
       left = y ∙ ap (λ (p : List ℕ). block_bits p 8 e) access_number ∙ ap (λ (a : Answer Whose). a.left) (sym hands_it);
     }
 
@@ -322,19 +321,19 @@ module _ (e : List ℕ) where
   }
 
   -- a refusal has a number
-  unnumbered : (t : Told) (x : Naming) → (of_whose (naming t x)).number ≡ None → t ≡ told.Done
+  unnumbered : (t : Told) (x : Naming) → (of_whose (naming t x)).number ≡ None → t ≡ (Ok tt)
   unfolding naming
-  unnumbered told.Done x h = refl
-  unnumbered (told.Refused r) x h = let z : ◌≡◌ {A = ℕ} 0 1 = cc in let w : ⊥ = omega arith in absurd w
+  unnumbered (Ok tt) x h = refl
+  unnumbered (Err r) x h = let z : ◌≡◌ {A = ℕ} 0 1 = cc in let w : ⊥ = omega arith in absurd w
 
-  told_as : (r : Refusal) → access_whose e ≡ Refused r → Tells (access_whose e) (Some (number_of r)) None None
+  told_as : (r : Refusal) → access_whose e ≡ Err r → Tells (access_whose e) (Some (number_of r)) None None
   told_as r f = (ap of_whose f, ap identity_of f)
 
-  whose_one : (length e ≡ 36 → ⊥) → access_whose e ≡ Refused Length
+  whose_one : (length e ≡ 36 → ⊥) → access_whose e ≡ Err Length
   unfolding access_whose naming judged
   whose_one h = rw (not_true (eqb (length e) 36) (λ (t : eqb (length e) 36 ≡ true). h (eqb-true (length e) 36 t))) refl
 
-  whose_two : length e ≡ 36 → (Symbols e → ⊥) → access_whose e ≡ Refused NotBits
+  whose_two : length e ≡ 36 → (Symbols e → ⊥) → access_whose e ≡ Err NotBits
   unfolding access_whose naming judged
   whose_two le h = rw (eq-eqb (length e) 36 le, not_true (none_over 2 e) (λ (t : none_over 2 e ≡ true). h (none_over_lem 2 e t))) refl
 
@@ -372,7 +371,7 @@ hands_over e le se =
     }
 
 module _ (e out : List ℕ) where
-  refused_with : (r : Refusal) → told 2 36 8 0 e out ≡ told.Refused r → Hands (any_access_received e out) (Some (number_of r)) None None out
+  refused_with : (r : Refusal) → told 2 36 8 0 e out ≡ Err r → Hands (any_access_received e out) (Some (number_of r)) None None out
   refused_with r f =
       let m = any_refused e out (told 2 36 8 0 e out) refl r f in
       ((ap of_whose (sym m.result), ap identity_of (sym m.result)), sym m.left)

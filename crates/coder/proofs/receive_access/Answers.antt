@@ -1,12 +1,8 @@
 -- `coder::receive_access` is right: the number in the code is its generator.
 use Rattle.parity.proofs.laws.Generators.{access_number}
 use Rattle.coder.specs.Received.{access_received}
-use Rattle.coder.proofs.laws.Format.{access_fits}
 use Rattle.coder.proofs.laws.Heard.{same_reception}
 use Rattle.coder.proofs.receive_access.Goals as goal
-
-pub receive_block-requires : goal.receive_block-requires
-receive_block-requires c = access_fits
 
 pub returns : goal.returns
 unfolding access_received

@@ -1,12 +1,8 @@
 -- `coder::receive_sch` is right: the number in the code is its generator.
 use Rattle.parity.proofs.laws.Generators.{sch_number}
 use Rattle.coder.specs.Received.{sch_received}
-use Rattle.coder.proofs.laws.Format.{sch_fits}
 use Rattle.coder.proofs.laws.Heard.{same_reception}
 use Rattle.coder.proofs.receive_sch.Goals as goal
-
-pub receive_block-requires : goal.receive_block-requires
-receive_block-requires c = sch_fits
 
 pub returns : goal.returns
 unfolding sch_received

@@ -5,7 +5,7 @@ use Rattle.bits.specs.Bits.{digits, value, zeros}
 use Rattle.parity.specs.Asked.{Generates}
 use Rattle.parity.specs.Division.{parity}
 use Rattle.trellis.specs.Nearest.{longest}
-use Rattle.coder.specs.declared.block.Format.{Format}
+use Rattle.coder.specs.declared.format.Format.{Format}
 
 -- how many bits u has: the block's, its parity bits, four zeros
 abbrev pub size : Format → ℕ
@@ -18,7 +18,7 @@ generator_of f = digits f.degree f.generator
 abbrev pub laid_out : ℕ → ℕ → ℕ → List ℕ → List ℕ
 laid_out generator degree colour d = d ++ (digits degree (bit_xor (value (parity (digits degree generator) d)) colour) ++ zeros 4)
 
--- what every format is; no identity has more bits than the parity
+-- what every format is, and its type says; no identity has more bits than the parity
 pub record Fits (f : Format) : Type 0 where
   pub generates : Generates f.generator f.degree
   pub wide : 6 ≤ f.degree

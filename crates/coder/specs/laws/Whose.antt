@@ -1,6 +1,6 @@
 -- The bits of the block that is nearest, whatever its parity says: those that go with the identity that it names.
 use mathlib.Core.List.{List}
-use Prim.Native.Nat.{ℕ, ◌+◌, ◌-◌}
+use Prim.Native.Nat.{ℕ, ◌+◌}
 use Rattle.std.proofs.Math.ListN.{length, take}
 use Rattle.trellis.specs.Nearest.{nearest}
 

@@ -1,5 +1,5 @@
 -- Each contract settles the number and every byte of the lent buffer; and the number gives the identity, 01's number and the count back.
-use Rattle.std.specs.Prelude.{Bool, true, false, List, ◌≡◌, ℕ, ◌+◌, ◌*◌, ◌/◌, ◌%◌, ◌≤◌, eqb, leb}
+use Rattle.std.specs.Prelude.{Bool, true, false, List, ◌≡◌, ℕ, ◌+◌, ◌*◌, ◌/◌, ◌%◌, ◌≤◌, eqb, leb, Ok, Err}
 use Rattle.std.proofs.Math.Path.{refl}
 use Rattle.std.proofs.Common.{sym, ap, ◌∙◌, arith}
 use Rattle.std.proofs.Math.Dec.{lit≤}
@@ -7,23 +7,15 @@ use Rattle.std.proofs.Math.ListN.{length}
 use Rattle.bits.specs.Bits.{none_over}
 use Rattle.parity.specs.Division.{access_g, control_g}
 use Rattle.trellis.proofs.laws.Nearest.{count_fits}
-use Rattle.answers.specs.Answers.{Answer, Meets, number_of, or_none, of_told, of_heard, hears}
-use Rattle.answers.specs.declared.Heard.{Heard}
-use Rattle.answers.specs.declared.Heard.TheVariants.{Good, Bad}
-use Rattle.answers.specs.declared.Heard.TheVariants as heard
+use Rattle.answers.specs.Answers.{Answer, Meets, number_of, or_none, of_told, of_heard, hears, Told, Heard}
 use Rattle.answers.specs.declared.Refusal.{Refusal}
 use Rattle.answers.specs.declared.Returned.{Returned}
-use Rattle.answers.specs.declared.Told.{Told}
-use Rattle.answers.specs.declared.Told.TheVariants.{Done}
-use Rattle.answers.specs.declared.Told.TheVariants as told
 use Rattle.answers.proofs.laws.Answers.{Settled, meets_once, number_fits}
 use Rattle.coder.specs.Entries.{judged, lengths, access_sent, control_sent}
 use Rattle.coder.specs.Received.{access_received, control_received, Hearing, block_heard, verdict, judged_hearing, reception}
-use Rattle.coder.specs.Whose.{Naming, block_named, naming, access_whose, of_whose, identity_of}
-use Rattle.coder.specs.declared.Whose.{Whose}
-use Rattle.coder.specs.declared.Whose.TheVariants.{Named}
-use Rattle.coder.specs.declared.Whose.TheVariants as whose
+use Rattle.coder.specs.Whose.{Naming, block_named, naming, access_whose, Whose, named, of_whose, identity_of}
 use Rattle.desk.specs.Desk.{one_number, in_one_number, with_identity}
+use Rattle.answers.specs.declared.Unheard.TheVariants as unheard
 
 module _ (identity : ℕ) (d c : List ℕ) where
   pub access_settled : Settled (in_one_number of_told (access_sent identity d c))
@@ -66,11 +58,11 @@ pub names_none : (r : Returned) → one_number r ≡ 16777216 * 0 + one_number r
 names_none r = omega arith
 
 -- ---- the identity, or the refusal, in one number
-pub named_in_one : (w : Whose) (i k n : ℕ) → w ≡ Named i k → n ≡ 16777216 * i + k → n ≡ with_identity w
+pub named_in_one : (w : Whose) (i k n : ℕ) → w ≡ Ok (named i k) → n ≡ 16777216 * i + k → n ≡ with_identity w
 unfolding with_identity one_number
 named_in_one w i k n e f = f ∙ omega arith ∙ ap with_identity (sym e)
 
-pub refused_in_one : (w : Whose) (r : Refusal) (n : ℕ) → w ≡ whose.Refused r → n ≡ 65536 * number_of r → n ≡ with_identity w
+pub refused_in_one : (w : Whose) (r : Refusal) (n : ℕ) → w ≡ Err r → n ≡ 65536 * number_of r → n ≡ with_identity w
 unfolding with_identity one_number
 refused_in_one w r n e f = f ∙ omega arith ∙ ap with_identity (sym e)
 
@@ -82,8 +74,8 @@ told_fits h l false e = rw e l
 
 hearing_fits : (t : Told) (h : Hearing) → h.count ≤ 65535 → or_none (of_heard (judged_hearing t h)).count ≤ 65535
 unfolding judged_hearing
-hearing_fits Done h l = told_fits h l h.good refl
-hearing_fits (told.Refused r) h l = omega arith
+hearing_fits (Ok tt) h l = told_fits h l h.good refl
+hearing_fits (Err r) h l = omega arith
 
 module _ (identity : ℕ) (c d : List ℕ) where
   pub access_count_fits : or_none (of_heard (access_received identity c d).result).count ≤ 65535
@@ -96,23 +88,23 @@ module _ (identity : ℕ) (c d : List ℕ) where
 
 -- ---- every number fits the middle part, and of `desk_whose_access` every part is what is said
 pub told_number_fits : (t : Told) → or_none (of_told t).number ≤ 255
-told_number_fits Done = lit≤ tt
-told_number_fits (told.Refused r) = number_fits r
+told_number_fits (Ok tt) = lit≤ tt
+told_number_fits (Err r) = number_fits r
 
 pub heard_number_fits : (h : Heard) → or_none (of_heard h).number ≤ 255
-heard_number_fits (Good k) = lit≤ tt
-heard_number_fits (heard.Refused r) = number_fits r
-heard_number_fits (Bad k) = lit≤ tt
+heard_number_fits (Ok k) = lit≤ tt
+heard_number_fits (Err (unheard.Refused r)) = number_fits r
+heard_number_fits (Err (unheard.Bad k)) = lit≤ tt
 
 module _ (e : List ℕ) where
   whose_number_fits : (w : Whose) → or_none (of_whose w).number ≤ 255
-  whose_number_fits (Named i k) = lit≤ tt
-  whose_number_fits (whose.Refused r) = number_fits r
+  whose_number_fits (Ok x) = lit≤ tt
+  whose_number_fits (Err r) = number_fits r
 
   naming_fits : (t : Told) (x : Naming) → x.count ≤ 65535 → or_none (of_whose (naming t x)).count ≤ 65535
   unfolding naming
-  naming_fits Done x l = l
-  naming_fits (told.Refused r) x l = lit≤ tt
+  naming_fits (Ok tt) x l = l
+  naming_fits (Err r) x l = lit≤ tt
 
   whose_count_fits : or_none (of_whose (access_whose e)).count ≤ 65535
   unfolding access_whose block_named

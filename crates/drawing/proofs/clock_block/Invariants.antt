@@ -1,12 +1,7 @@
-use mathlib.Core.Path.{◌≡◌}
-use Prim.Native.Nat.{◌-◌, ◌*◌, ◌≤◌}
-use lib.ListN.{take}
+use Rattle.std.proofs.Common.{◌≡◌, ◌*◌, take}
 use Rattle.bits.specs.Bits.{zeros}
 use Rattle.drawing.specs.Drawing.{control_taps, clocked_in}
 use Rattle.drawing.proofs.clock_block.Given as goal
 
-abbrev pub invariant-loop-i : goal.invariant-loop-i
-invariant-loop-i l = (l.i ≤ 23) × (l.cells ≡ clocked_in control_taps (zeros 40) (take (8 * l.i) l.d))
-
-abbrev pub decreases-loop-i : goal.decreases-loop-i
-decreases-loop-i l = 23 - l.i
+abbrev pub invariant-loop-octet : goal.invariant-loop-octet
+invariant-loop-octet l = l.cells ≡ clocked_in control_taps (zeros 40) (take (8 * l.octet-index) l.d)

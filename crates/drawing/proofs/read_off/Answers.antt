@@ -4,22 +4,10 @@ use Prim.Native.Nat.{ℕ, ◌-◌}
 use borrow.Author.Rules.{rules}
 use lib.ListN.{length, get_or}
 use Rattle.bits.specs.Bits.{tab}
-use Rattle.bits.proofs.laws.Tab.{filled_none, filled_more, filled_all}
+use Rattle.bits.proofs.laws.Tab.{filled_all}
 use Rattle.drawing.specs.Drawing.{read_off}
 use Rattle.drawing.proofs.read_off.Invariants.{turned}
 use Rattle.drawing.proofs.read_off.Goals as goal
-
-pub loop-k-init : goal.loop-k-init
-loop-k-init c =
-    filled_none (turned c.args.cells) 40 c.args.p.now c.requires.1
-
-pub complement-requires : goal.complement-requires
-complement-requires c = c.requires.0 _
-
-pub loop-k-preserved : goal.loop-k-preserved
-loop-k-preserved c =
-    let l = c.loop-k in
-    filled_more (turned c.args.cells) 40 l.k c.complement.result l.p l.invariant c.loop-k-test.true c.complement.ensures
 
 pub returns : goal.returns
 unfolding read_off

@@ -9,6 +9,3 @@ turned cells j = 1 - get_or cells (39 - j) 0
 
 abbrev pub invariant-loop-k : goal.invariant-loop-k
 invariant-loop-k l = Filled (turned l.cells) 40 l.k l.p
-
-abbrev pub decreases-loop-k : goal.decreases-loop-k
-decreases-loop-k l = 40 - l.k

@@ -13,5 +13,5 @@ pub returns : goal.returns
 returns c =
     let s = c.args in
     let read = c.restore in
-    let over = c.copy in
-    crc_good_lem s.count s.d.now s.s.now read.result read.ensures.0 over.new.to (c.if-not-restore.false) (over.ensures ∙ read.ensures.1)
+    let over = c.copy_from_slice in
+    crc_good_lem s.count s.d.now s.s.now read.result read.ensures.0 over.new.self (c.if-not-restore.false) (over.ensures.after ∙ read.ensures.1)

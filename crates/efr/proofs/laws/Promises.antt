@@ -3,7 +3,7 @@ use Rattle.std.specs.Prelude.{Bool, true, false, ◌≡◌, refl, length, get_or
 use mathlib.Core.List.{List, ◌++◌}
 use Rattle.std.proofs.Math.Logic.{⊎_elim}
 use Rattle.std.proofs.Math.Path.{sym, ap}
-use Rattle.std.proofs.Common.{ap₂, ◌∙◌, subst, lit≤, length-drop, length-take-le, get_or-take, get_or-drop, ext_get_or, lt-ltb, le-ltb}
+use Rattle.std.proofs.Common.{Err, Ok, ap₂, ◌∙◌, subst, lit≤, length-drop, length-take-le, get_or-take, get_or-drop, ext_get_or, lt-ltb, le-ltb}
 use Prim.Native.Nat.{ℕ, suc, ◌+◌, ◌-◌, ◌*◌, ◌≤◌, ◌<◌}
 use native.Mathlib.Omega.{arith}
 use Rattle.std.proofs.Math.Dec.{eqb}
@@ -15,12 +15,11 @@ use Rattle.order.specs.Order.{from1, place_in}
 use Rattle.order.proofs.laws.Order.{from_suc}
 use Rattle.parity.specs.Division.{remainder, speech_g, efr_g}
 use Rattle.trellis.specs.Nearest.{disagreements, nearest, nearest_count}
-use Rattle.answers.specs.Answers.{Answer, of_told}
-use Rattle.answers.specs.declared.Told.{Told}
+use Rattle.answers.specs.Answers.{Answer, of_told, Told}
 use Rattle.coder.specs.Blocks.{speech_block}
 use Rattle.coder.specs.Entries.{Given, entry}
 use Rattle.coder.specs.Promises.{altered}
-use Rattle.coder.specs.Received.{Hearing, all_ones, speech_dat, speech_heard}
+use Rattle.coder.specs.Received.{Hearing, all_ones, speech_d_at, speech_heard}
 use Rattle.coder.specs.Says.{speech_d, speech_word}
 use Rattle.coder.proofs.laws.Entries.{done, sends}
 use Rattle.coder.proofs.laws.Hearings.{speech_hearing}
@@ -31,7 +30,7 @@ use Rattle.tables.specs.Tables.{ordering}
 use Rattle.preliminary.proofs.laws.Protected.{at_k, below_260, same_word}
 use Rattle.efr.proofs.laws.Says.{zeros_good, bad_parity, bad_crc, all_good, accepts_all}
 use Rattle.preliminary.proofs.laws.Stage.{unrepeated, in_w_lem, length_d, bits_sent, length_s, w_restored, s_restored, crc_sent}
-use Rattle.efr.specs.declared.Checked.TheVariants as checked
+use Rattle.efr.specs.declared.Unchecked.TheVariants as checked
 
 -- ---- s out of a block whose first 182 bits are those that were sent, and whose last 78 are what arrived
 module _ (s e : List ℕ) (ls : length s ≡ 244) (le : length e ≡ 456) where
@@ -109,22 +108,22 @@ module _ (e f out : List ℕ) (ge : Given 2 456 244 e out) (gf : Given 2 456 244
   same_count = ap (λ (c : List ℕ). nearest_count c 189) front
 
   -- the bits heard of such a block, by their index
-  heard_first : (c : List ℕ) (j : ℕ) → j < 182 → get_or (speech_heard c).bits j 0 ≡ speech_dat (nearest (take 378 c) 189) j
+  heard_first : (c : List ℕ) (j : ℕ) → j < 182 → get_or (speech_heard c).bits j 0 ≡ speech_d_at (nearest (take 378 c) 189) j
   unfolding speech_heard
   heard_first c j h =
       let u : List ℕ = nearest (take 378 c) 189 in
-      at_left (speech_d u) (given_bits (drop 378 c)) j (rw (length_tab 182 (speech_dat u)) h) ∙ at_tab 182 (speech_dat u) j h
+      at_left (speech_d u) (given_bits (drop 378 c)) j (rw (length_tab 182 (speech_d_at u)) h) ∙ at_tab 182 (speech_d_at u) j h
 
   heard_last : (c : List ℕ) → length c ≡ 456 → (j : ℕ) → 182 ≤ j → j < 260 → get_or (speech_heard c).bits j 0 ≡ given_as (arrived c j)
   unfolding speech_heard
   heard_last c lc j l h =
       let u : List ℕ = nearest (take 378 c) 189 in
-      at_right (speech_d u) (given_bits (drop 378 c)) 182 (j - 182) j (length_tab 182 (speech_dat u)) (omega arith)
+      at_right (speech_d u) (given_bits (drop 378 c)) 182 (j - 182) j (length_tab 182 (speech_d_at u)) (omega arith)
       ∙ given_at (drop 378 c) (j - 182) (rw (length-drop 378 c) (omega (arith, lc)))
       ∙ ap given_as (get_or-drop 378 c (j - 182) 0)
 
   same_first : (j : ℕ) → j < 182 → get_or (speech_heard e).bits j 0 ≡ get_or (speech_heard f).bits j 0
-  same_first j h = heard_first e j h ∙ ap (λ (c : List ℕ). speech_dat (nearest c 189) j) front ∙ sym (heard_first f j h)
+  same_first j h = heard_first e j h ∙ ap (λ (c : List ℕ). speech_d_at (nearest c 189) j) front ∙ sym (heard_first f j h)
 
   same_crc : crc_good (w_of (speech_heard e).bits) ≡ crc_good (w_of (speech_heard f).bits)
   unfolding crc_good
@@ -152,15 +151,15 @@ module _ (e f out : List ℕ) (ge : Given 2 456 244 e out) (gf : Given 2 456 244
   by_verdicts : (g k : Bool) → (speech_heard f).good ≡ g → crc_good (w_of (speech_heard f).bits) ≡ k → efr_received e out ≡ efr_received f out
   by_verdicts false k eg ek =
       bad_parity e out (done 2 456 244 0 e out (lit≤ tt) ge) (same_good ∙ eg)
-      ∙ ap (λ (n : ℕ). record { result = checked.BadParity n; left = out }) same_count
+      ∙ ap (λ (n : ℕ). record { result = Err (checked.BadParity n); left = out }) same_count
       ∙ sym (bad_parity f out (done 2 456 244 0 f out (lit≤ tt) gf) eg)
   by_verdicts true false eg ek =
       bad_crc e out (done 2 456 244 0 e out (lit≤ tt) ge) (same_good ∙ eg) (same_crc ∙ ek)
-      ∙ ap (λ (n : ℕ). record { result = checked.BadCrc n; left = out }) same_count
+      ∙ ap (λ (n : ℕ). record { result = Err (checked.BadCrc n); left = out }) same_count
       ∙ sym (bad_crc f out (done 2 456 244 0 f out (lit≤ tt) gf) eg ek)
   by_verdicts true true eg ek =
       all_good e out (done 2 456 244 0 e out (lit≤ tt) ge) (same_good ∙ eg) (same_crc ∙ ek)
-      ∙ ap₂ (λ (n : ℕ) (s : List ℕ). record { result = checked.Good n; left = s }) same_count same_s
+      ∙ ap₂ (λ (n : ℕ) (s : List ℕ). record { result = Ok n; left = s }) same_count same_s
       ∙ sym (all_good f out (done 2 456 244 0 f out (lit≤ tt) gf) eg ek)
 
 pub copies_ignored : CopiesIgnored

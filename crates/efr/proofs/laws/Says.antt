@@ -1,5 +1,5 @@
 -- What the two entries answer is what Says has; and 10 is given exactly where the three-bit parity is good and the CRC is not.
-use Rattle.std.specs.Prelude.{Bool, true, false, List, ◌++◌, ◌≡◌, ℕ, ◌≤◌, leb, length, take, drop}
+use Rattle.std.specs.Prelude.{Bool, true, false, List, ◌++◌, ◌≡◌, ℕ, ◌≤◌, leb, length, take, drop, Option, None, Some, Ok, Err}
 use Rattle.std.proofs.Math.Path.{refl, ap}
 use Rattle.std.proofs.Common.{sym, ◌∙◌, subst, arith, lit≤, length-drop, eq-eqb, eqb-true}
 use Rattle.bits.specs.Bits.{Bits, given_bits, none_over, add, value, ones, zeros}
@@ -10,29 +10,24 @@ use Rattle.parity.proofs.laws.Division.{remainder_after}
 use Rattle.trellis.proofs.laws.Nearest.{nearest_once}
 use Rattle.order.specs.Order.{fetched}
 use Rattle.order.proofs.laws.Order.{over_fetched}
-use Rattle.answers.specs.Answers.{Answer, number_of}
-use Rattle.answers.specs.declared.Maybe.{Maybe}
-use Rattle.answers.specs.declared.Maybe.TheVariants.{None, Some}
+use Rattle.answers.specs.Answers.{Answer, number_of, Told}
 use Rattle.answers.specs.declared.Refusal.{Refusal}
 use Rattle.answers.specs.declared.Refusal.TheVariants.{Length, NotBits, Identity}
 use Rattle.answers.specs.declared.Returned.{Returned}
-use Rattle.answers.specs.declared.Told.{Told}
-use Rattle.answers.specs.declared.Told.TheVariants.{Done, Refused}
 use Rattle.coder.specs.Entries.{judged, lengths, Given}
 use Rattle.coder.specs.Received.{Hearing, verdict, judged_hearing, speech_heard}
 use Rattle.coder.specs.Says.{speech_d, speech_word}
 use Rattle.coder.proofs.laws.Entries.{done, done_given}
 use Rattle.coder.proofs.laws.Restored.{same_value}
 use Rattle.coder.proofs.laws.Says.{refusing, sends_as, speech_decodes, speech_heard_lem}
-use Rattle.efr.specs.Answers.{of_checked, checked_or, checks}
+use Rattle.efr.specs.Answers.{Checked, of_checked, checked_or, checks}
 use Rattle.efr.specs.Entries.{efr_block, efr_sent, with_crc, efr_received}
 use Rattle.efr.specs.Says.{EfrSends, Accepts, FindsBad, JudgesCrc, EfrReceives, CrcAlone, TenExactly}
 use Rattle.preliminary.specs.Stage.{w_of, s_of, crc_word, crc_good}
 use Rattle.tables.specs.Tables.{important}
 use Rattle.efr.proofs.laws.Entries.{bits_heard}
 use Rattle.preliminary.proofs.laws.Stage.{efr_long, length_of, bits_of, bits_s}
-use Rattle.efr.specs.declared.Checked.{Checked}
-use Rattle.efr.specs.declared.Checked.TheVariants as checked
+use Rattle.efr.specs.declared.Unchecked.TheVariants as checked
 
 pub efr_sends : EfrSends
 unfolding efr_sent
@@ -60,7 +55,7 @@ good_zeros w lw bw e =
     (subst Bits (sym r) (bits_add x q bq)) (bits_zeros (length efr_g)) (eqb-true (value (remainder efr_g (b ++ q))) 0 e ∙ sym none)
 
 -- ---- a refusal before the block is heard is 1, 2 or 3, and has no count
-early : (l b i : Bool) (x : Refusal) → judged l b i ≡ Refused x → number_of x ≤ 3
+early : (l b i : Bool) (x : Refusal) → judged l b i ≡ Err x → number_of x ≤ 3
 unfolding judged
 early false b i x e = let f : Length ≡ x = cc in subst (λ (y : Refusal). number_of y ≤ 3) f (lit≤ tt)
 early true false i x e = let f : NotBits ≡ x = cc in subst (λ (y : Refusal). number_of y ≤ 3) f (lit≤ tt)
@@ -85,30 +80,30 @@ module _ (c before : List ℕ) where
   unfolding efr_received
   by_told x e = ap (λ (y : Told). checks (with_crc (judged_hearing y h) d) (s_of (w_of d)) before) e
 
-  refused_as : (x : Refusal) → t ≡ Refused x → a ≡ record { result = checked.Refused x; left = before }
+  refused_as : (x : Refusal) → t ≡ Err x → a ≡ record { result = Err (checked.Refused x); left = before }
   unfolding judged_hearing with_crc checks checked_or
-  refused_as x e = by_told (Refused x) e
+  refused_as x e = by_told (Err x) e
 
   -- the three verdicts
-  pub bad_parity : t ≡ Done → h.good ≡ false → a ≡ record { result = checked.BadParity h.count; left = before }
+  pub bad_parity : t ≡ (Ok tt) → h.good ≡ false → a ≡ record { result = Err (checked.BadParity h.count); left = before }
   unfolding judged_hearing verdict with_crc checks checked_or
-  bad_parity e g = by_told Done e ∙ rw g refl
+  bad_parity e g = by_told (Ok tt) e ∙ rw g refl
 
-  pub bad_crc : t ≡ Done → h.good ≡ true → crc_good (w_of d) ≡ false → a ≡ record { result = checked.BadCrc h.count; left = before }
+  pub bad_crc : t ≡ (Ok tt) → h.good ≡ true → crc_good (w_of d) ≡ false → a ≡ record { result = Err (checked.BadCrc h.count); left = before }
   unfolding judged_hearing verdict with_crc checks checked_or
-  bad_crc e g k = by_told Done e ∙ rw (g, k) refl
+  bad_crc e g k = by_told (Ok tt) e ∙ rw (g, k) refl
 
-  pub all_good : t ≡ Done → h.good ≡ true → crc_good (w_of d) ≡ true → a ≡ record { result = checked.Good h.count; left = s_of (w_of d) }
+  pub all_good : t ≡ (Ok tt) → h.good ≡ true → crc_good (w_of d) ≡ true → a ≡ record { result = Ok h.count; left = s_of (w_of d) }
   unfolding judged_hearing verdict with_crc checks checked_or
-  all_good e g k = by_told Done e ∙ rw (g, k) refl
+  all_good e g k = by_told (Ok tt) e ∙ rw (g, k) refl
 
   -- an answer in 01's number and count, and the buffer
   returns : (x : Answer Checked) → a ≡ x → (of_checked a.result ≡ of_checked x.result) × (a.left ≡ x.left)
   returns x e = (ap (λ (y : Answer Checked). of_checked y.result) e, ap (λ (y : Answer Checked). y.left) e)
 
-  counted : (x : Told) → t ≡ x → (k : ℕ) → (of_checked a.result).count ≡ Some k → t ≡ Done
-  counted Done e k f = e
-  counted (Refused y) e k f =
+  counted : (x : Told) → t ≡ x → (k : ℕ) → (of_checked a.result).count ≡ Some k → t ≡ (Ok tt)
+  counted (Ok tt) e k f = e
+  counted (Err y) e k f =
       let none : (of_checked a.result).count ≡ None = ap (λ (r : Returned). r.count) (returns _ (refused_as y e)).0 in
       let z : ◌≡◌ {A = ℕ} 0 1 = cc in let w : ⊥ = omega arith in absurd w
 
@@ -116,7 +111,7 @@ module _ (c before : List ℕ) where
   efr_receives = record {
     refused = refusing 2 456 244 0 c before of_checked a (λ x e. returns _ (refused_as x e));
     heard = λ g.
-        let e : t ≡ Done = done 2 456 244 0 c before (lit≤ tt) g in
+        let e : t ≡ (Ok tt) = done 2 456 244 0 c before (lit≤ tt) g in
         let heard_as = bits_heard c g.reads g.bits in
         speech_decodes c (JudgesCrc a before) (λ k. FindsBad a 8 k before)
         (λ good. record {
@@ -137,19 +132,19 @@ module _ (c before : List ℕ) where
       subst (λ (k : ℕ). FindsBad a 10 k before) one.1 ((y.good parity).bad crc)
 
   -- any other answer has another number
-  another : (n : Maybe) → (of_checked a.result).number ≡ n → (n ≡ Some 10 → ⊥) → (of_checked a.result).number ≡ Some 10 → ⊥
+  another : (n : Option ℕ) → (of_checked a.result).number ≡ n → (n ≡ Some 10 → ⊥) → (of_checked a.result).number ≡ Some 10 → ⊥
   another n e other f = other (sym e ∙ f)
 
   number : (x : Answer Checked) → a ≡ x → (of_checked a.result).number ≡ (of_checked x.result).number
   number x e = ap (λ (r : Returned). r.number) (returns x e).0
 
   only_ten : (x : Told) → t ≡ x → (g k : Bool) → h.good ≡ g → crc_good (w_of d) ≡ k → (of_checked a.result).number ≡ Some 10 → CrcAlone c before
-  only_ten (Refused y) e g k eg ek f =
+  only_ten (Err y) e g k eg ek f =
       let small : number_of y ≤ 3 = early (lengths c 456 before 244) (none_over 2 c) (leb 0 63) y e in
       absurd (another (Some (number_of y)) (number _ (refused_as y e)) (λ (same : Some (number_of y) ≡ Some 10). let s : number_of y ≡ 10 = cc in omega (arith, small, s)) f)
-  only_ten Done e false k eg ek f = absurd (another (Some 8) (number _ (bad_parity e eg)) (λ (same : Some 8 ≡ Some 10). let s : ◌≡◌ {A = ℕ} 8 10 = cc in omega (arith, s)) f)
-  only_ten Done e true true eg ek f = absurd (another None (number _ (all_good e eg ek)) (λ (same : None ≡ Some 10). let s : ◌≡◌ {A = ℕ} 0 1 = cc in omega (arith, s)) f)
-  only_ten Done e true false eg ek f =
+  only_ten (Ok tt) e false k eg ek f = absurd (another (Some 8) (number _ (bad_parity e eg)) (λ (same : Some 8 ≡ Some 10). let s : ◌≡◌ {A = ℕ} 8 10 = cc in omega (arith, s)) f)
+  only_ten (Ok tt) e true true eg ek f = absurd (another None (number _ (all_good e eg ek)) (λ (same : None ≡ Some 10). let s : ◌≡◌ {A = ℕ} 0 1 = cc in omega (arith, s)) f)
+  only_ten (Ok tt) e true false eg ek f =
       let x = speech_heard_lem c in
       let same : d ≡ speech_d x.u ++ given_bits (drop 378 c) = x.bits in
       record {
@@ -169,11 +164,11 @@ pub accepts_all : (c before : List ℕ) → Given 2 456 244 c before → (count 
     → crc_good (w_of (speech_heard c).bits) ≡ true → s_of (w_of (speech_heard c).bits) ≡ bits → Accepts (efr_received c before) count bits
 accepts_all c before g count bits eg ec ek eb =
     let x = returns c before _ (all_good c before (done 2 456 244 0 c before (lit≤ tt) g) eg ek) in
-    (x.0 ∙ ap (λ (k : ℕ). of_checked (checked.Good k)) ec, x.1 ∙ eb)
+    (x.0 ∙ ap (λ (k : ℕ). of_checked (Ok k)) ec, x.1 ∙ eb)
 
 -- and one whose CRC alone is bad
 pub finds_bad_crc : (c before : List ℕ) → Given 2 456 244 c before → (count : ℕ) → (speech_heard c).good ≡ true → (speech_heard c).count ≡ count
     → crc_good (w_of (speech_heard c).bits) ≡ false → FindsBad (efr_received c before) 10 count before
 finds_bad_crc c before g count eg ec ek =
     let x = returns c before _ (bad_crc c before (done 2 456 244 0 c before (lit≤ tt) g) eg ek) in
-    (x.0 ∙ ap (λ (k : ℕ). of_checked (checked.BadCrc k)) ec, x.1)
+    (x.0 ∙ ap (λ (k : ℕ). of_checked (Err (checked.BadCrc k))) ec, x.1)

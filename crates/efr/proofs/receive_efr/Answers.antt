@@ -1,6 +1,7 @@
 -- `efr::receive_efr` is right: what the speech entry hears, with the CRC judged where the parity is good.
 use mathlib.Core.Path.{refl}
-use Rattle.efr.proofs.laws.Entries.{wrong_length, judged_asked, received_good, received_refused, received_bad}
+use Rattle.std.proofs.lemmas.Result.{err_from_is_err_and}
+use Rattle.efr.proofs.laws.Entries.{wrong_length, judged_asked, received_good, received_unheard}
 use Rattle.efr.proofs.receive_efr.Goals as goal
 
 pub returns-then-s-ne244 : goal.returns-then-s-ne244
@@ -9,24 +10,19 @@ returns-then-s-ne244 c = wrong_length c.args.c.now c.args.s.now c.if-s-ne244.tru
 pub judge_crc-requires : goal.judge_crc-requires
 judge_crc-requires c =
     let s = c.args in
-    let heard = c.receive_speech-heard in
-    judged_asked s.c.now s.s.now _ heard.new.d heard.result refl c.if-s-ne244.false heard.ensures _ c.in-Good.is
+    let heard = c.receive_speech in
+    judged_asked s.c.now s.s.now _ heard.new.d heard.result refl c.if-s-ne244.false heard.ensures _ c.in_ok-count.was
 
-pub returns-in-Good : goal.returns-in-Good
-returns-in-Good c =
+pub returns : goal.returns
+returns c =
     let s = c.args in
-    let heard = c.receive_speech-heard in
+    let heard = c.receive_speech in
     let done = c.judge_crc in
-    received_good s.c.now s.s.now _ heard.new.d heard.result refl c.if-s-ne244.false heard.ensures _ c.in-Good.is done.result done.new.s done.ensures
+    received_good s.c.now s.s.now _ heard.new.d heard.result refl c.if-s-ne244.false heard.ensures _ c.in_ok-count.was done.result done.new.s done.ensures
 
-pub returns-in-Refused : goal.returns-in-Refused
-returns-in-Refused c =
+pub returns-in_err-count : goal.returns-in_err-count
+returns-in_err-count c =
     let s = c.args in
-    let heard = c.receive_speech-heard in
-    received_refused s.c.now s.s.now _ heard.new.d heard.result refl c.if-s-ne244.false heard.ensures _ c.in-Refused.is
-
-pub returns-in-Bad : goal.returns-in-Bad
-returns-in-Bad c =
-    let s = c.args in
-    let heard = c.receive_speech-heard in
-    received_bad s.c.now s.s.now _ heard.new.d heard.result refl c.if-s-ne244.false heard.ensures _ c.in-Bad.is
+    let heard = c.receive_speech in
+    let p = err_from_is_err_and c.from_residual.result c.from_residual.ensures.1 in
+    rw (p.1, p.2) (received_unheard s.c.now s.s.now _ heard.new.d heard.result refl c.if-s-ne244.false heard.ensures _ c.in_err-count.was)

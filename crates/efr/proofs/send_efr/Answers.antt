@@ -2,13 +2,15 @@
 use mathlib.Core.Path.{refl, sym, ◌∙◌}
 use Rattle.bits.proofs.laws.Check.{none_over_lem}
 use Rattle.efr.proofs.laws.Entries.{sent_length, sent_lent, sent_not_bits, sent_done}
+use Rattle.efr.proofs.send_efr.Goals.{then-s-ne244-via-then-s-ne244, then-s-ne244-via-else-s-ne244+then-c-ne456}
 use Rattle.efr.proofs.send_efr.Goals as goal
 
 pub returns-then-s-ne244 : goal.returns-then-s-ne244
-returns-then-s-ne244 c = sent_length c.args.s.now c.args.c.now c.if-s-ne244.true
-
-pub returns-then-c-ne456 : goal.returns-then-c-ne456
-returns-then-c-ne456 c = sent_lent c.args.s.now c.args.c.now c.if-c-ne456.true
+returns-then-s-ne244 c =
+    elim c.then-s-ne244.branch [
+      | then-s-ne244-via-then-s-ne244 w ↦ sent_length c.args.s.now c.args.c.now w.if-s-ne244.true
+      | then-s-ne244-via-else-s-ne244+then-c-ne456 w ↦ sent_lent c.args.s.now c.args.c.now w.if-c-ne456.true
+    ]
 
 pub returns-then-not-none_over : goal.returns-then-not-none_over
 returns-then-not-none_over c =

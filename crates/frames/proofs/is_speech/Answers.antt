@@ -1,20 +1,22 @@
 -- `frames::is_speech` is right: one type or the other.
-use mathlib.Core.Bool.{Bool, true}
-use mathlib.Core.Path.{sym, ap, ◌∙◌}
+use Rattle.std.proofs.Common.{Bool, true, false, ◌≡◌, refl, sym, ap, ◌∙◌}
 use Rattle.bits.specs.Bits.{pick}
-use Rattle.frames.specs.Frame.{downlink, begins, is_speech}
+use Rattle.frames.specs.Frame.{uplink, downlink, begins, is_speech}
+use Rattle.frames.proofs.laws.Speech.{starts_so}
 use Rattle.frames.proofs.is_speech.Goals as goal
 
-pub returns-then-begins : goal.returns-then-begins
+pub returns-then-starts_with : goal.returns-then-starts_with
 unfolding is_speech
-returns-then-begins c =
+returns-then-starts_with c =
     let control = c.args.control.now in
-    let first = c.begins in
-    ap (λ (b : Bool). pick b true (begins control downlink)) (sym c.if-begins.true ∙ first.ensures)
+    let up : begins control uplink ≡ true = sym (starts_so control uplink c.requires refl) ∙ sym c.starts_with.ensures.value ∙ c.if-starts_with.true in
+    c.if-starts_with.true ∙ sym (ap (λ (b : Bool). pick b true (begins control downlink)) up)
 
-pub returns : goal.returns
+pub returns-else-starts_with : goal.returns-else-starts_with
 unfolding is_speech
-returns c =
+returns-else-starts_with c =
     let control = c.args.control.now in
-    let first = c.begins in
-    c.begins-2.ensures ∙ ap (λ (b : Bool). pick b true (begins control downlink)) (sym c.if-begins.false ∙ first.ensures)
+    let up : begins control uplink ≡ false = sym (starts_so control uplink c.requires refl) ∙ sym c.starts_with.ensures.value ∙ c.if-starts_with.false in
+    c.starts_with-else-starts_with.ensures.value
+    ∙ starts_so control downlink c.requires refl
+    ∙ sym (ap (λ (b : Bool). pick b true (begins control downlink)) up)

@@ -1,14 +1,12 @@
 -- The ways in which writing and reading a frame end.
-use Rattle.std.specs.Prelude.{Bool, true, false, List, ◌≡◌, ℕ, eqb, length, get_or, take, drop}
+use Rattle.std.specs.Prelude.{Bool, true, false, List, ◌≡◌, ℕ, eqb, length, get_or, take, drop, Ok, Err}
 use Rattle.std.proofs.Math.Path.{refl, sym, ap}
 use Rattle.std.proofs.Common.{◌∙◌, arith, get_or-take, eqb-true, eq-eqb}
-use Rattle.answers.specs.Answers.{Meets, sent_or}
+use Rattle.answers.specs.Answers.{Meets, sent_or, Told}
 use Rattle.answers.specs.declared.Refusal.{Refusal}
 use Rattle.answers.specs.declared.Refusal.TheVariants.{Length, NotBits, FixedBit, FrameType}
-use Rattle.answers.specs.declared.Told.{Told}
-use Rattle.answers.specs.declared.Told.TheVariants.{Done, Refused}
 use Rattle.answers.proofs.laws.Answers.{tells_done, tells_refused}
-use Rattle.bits.specs.Bits.{both, none_over}
+use Rattle.bits.specs.Bits.{pick, both, none_over}
 use Rattle.bits.proofs.laws.Cases.{both_first, both_second}
 use Rattle.bits.proofs.laws.Parts.{length_lent}
 use Rattle.bits.proofs.laws.Tab.{at_left}
@@ -43,6 +41,15 @@ sized_is c d x s =
     both_hold (eqb (length c) 21) (both (eqb (length d) 260) (eqb (length x) 40)) (eq-eqb (length c) 21 s.control)
     (both_hold (eqb (length d) 260) (eqb (length x) 40) (eq-eqb (length d) 260 s.speech) (eq-eqb (length x) 40 s.octets))
 
+-- what is said of the lengths alone
+pub sizes_right : (b : Bool) → pick {A = Told} b (Ok tt) (Err Length) ≡ Ok tt → b ≡ true
+sizes_right true e = refl
+sizes_right false e = cc
+
+pub sizes_wrong : (b : Bool) (r : Refusal) → pick {A = Told} b (Ok tt) (Err Length) ≡ Err r → (b ≡ false) × (r ≡ Length)
+sizes_wrong true r e = cc
+sizes_wrong false r e = (refl, cc)
+
 module _ (c d x : List ℕ) where
   -- ---- writing
   abbrev pub bits_both : Bool
@@ -60,51 +67,51 @@ module _ (c d x : List ℕ) where
   pub two_bits : none_over 1 c ≡ true → none_over 1 d ≡ true → bits_both ≡ true
   two_bits a b = both_hold (none_over 1 c) (none_over 1 d) a b
 
-  pub write_1 : sized c d x ≡ false → write_told ≡ Refused Length
+  pub write_1 : sized c d x ≡ false → write_told ≡ Err Length
   unfolding write_judged
   write_1 s = ap (λ (b : Bool). write_judged b bits_both (is_speech c)) s
 
-  pub write_2 : sized c d x ≡ true → bits_both ≡ false → write_told ≡ Refused NotBits
+  pub write_2 : sized c d x ≡ true → bits_both ≡ false → write_told ≡ Err NotBits
   unfolding write_judged
   write_2 s n = rw (s, n) refl
 
-  pub write_19 : sized c d x ≡ true → bits_both ≡ true → is_speech c ≡ false → write_told ≡ Refused FrameType
+  pub write_19 : sized c d x ≡ true → bits_both ≡ true → is_speech c ≡ false → write_told ≡ Err FrameType
   unfolding write_judged
   write_19 s b t = rw (s, b, t) refl
 
-  pub write_0 : sized c d x ≡ true → bits_both ≡ true → is_speech c ≡ true → write_told ≡ Done
+  pub write_0 : sized c d x ≡ true → bits_both ≡ true → is_speech c ≡ true → write_told ≡ (Ok tt)
   unfolding write_judged
   write_0 s b t = rw (s, b, t) refl
 
-  pub write_refused : (r : Refusal) → write_told ≡ Refused r → Meets (frame_written c d x) (Refused r) x
+  pub write_refused : (r : Refusal) → write_told ≡ Err r → Meets (frame_written c d x) (Err r) x
   unfolding frame_written
-  write_refused r e = tells_refused write_told (frame c d) x (Refused r) (sym e) r refl
+  write_refused r e = tells_refused write_told (frame c d) x (Err r) (sym e) r refl
 
-  pub write_done : (after : List ℕ) → write_told ≡ Done → after ≡ frame c d → Meets (frame_written c d x) Done after
+  pub write_done : (after : List ℕ) → write_told ≡ (Ok tt) → after ≡ frame c d → Meets (frame_written c d x) (Ok tt) after
   unfolding frame_written
-  write_done after e f = tells_done write_told (frame c d) x Done (sym e) after refl f
+  write_done after e f = tells_done write_told (frame c d) x (Ok tt) (sym e) after refl f
 
   -- ---- reading
   abbrev pub read_told : Told
   read_told = read_judged (sized c d x) (fixed_right (unpacked x)) (is_speech (control_of (unpacked x)))
 
-  pub read_1 : sized c d x ≡ false → read_told ≡ Refused Length
+  pub read_1 : sized c d x ≡ false → read_told ≡ Err Length
   unfolding read_judged
   read_1 s = ap (λ (b : Bool). read_judged b (fixed_right (unpacked x)) (is_speech (control_of (unpacked x)))) s
 
-  pub read_18 : sized c d x ≡ true → fixed_right (unpacked x) ≡ false → read_told ≡ Refused FixedBit
+  pub read_18 : sized c d x ≡ true → fixed_right (unpacked x) ≡ false → read_told ≡ Err FixedBit
   unfolding read_judged
   read_18 s n = rw (s, n) refl
 
-  pub read_19 : sized c d x ≡ true → fixed_right (unpacked x) ≡ true → is_speech (control_of (unpacked x)) ≡ false → read_told ≡ Refused FrameType
+  pub read_19 : sized c d x ≡ true → fixed_right (unpacked x) ≡ true → is_speech (control_of (unpacked x)) ≡ false → read_told ≡ Err FrameType
   unfolding read_judged
   read_19 s b t = rw (s, b, t) refl
 
-  pub read_0 : sized c d x ≡ true → fixed_right (unpacked x) ≡ true → is_speech (control_of (unpacked x)) ≡ true → read_told ≡ Done
+  pub read_0 : sized c d x ≡ true → fixed_right (unpacked x) ≡ true → is_speech (control_of (unpacked x)) ≡ true → read_told ≡ (Ok tt)
   unfolding read_judged
   read_0 s b t = rw (s, b, t) refl
 
-  pub read_refused : (r : Refusal) → read_told ≡ Refused r → FrameMeets (frame_read x c d) (Refused r) c d
+  pub read_refused : (r : Refusal) → read_told ≡ Err r → FrameMeets (frame_read x c d) (Err r) c d
   unfolding frame_read reads sent_or
   read_refused r e = record {
     told = sym e;
@@ -112,7 +119,7 @@ module _ (c d x : List ℕ) where
     second = ap (λ (t : Told). sent_or t (speech_of (unpacked x)) d) (sym e);
   }
 
-  pub read_done : (control speech : List ℕ) → read_told ≡ Done → control ≡ control_of (unpacked x) → speech ≡ speech_of (unpacked x) → FrameMeets (frame_read x c d) Done control speech
+  pub read_done : (control speech : List ℕ) → read_told ≡ (Ok tt) → control ≡ control_of (unpacked x) → speech ≡ speech_of (unpacked x) → FrameMeets (frame_read x c d) (Ok tt) control speech
   unfolding frame_read reads sent_or
   read_done control speech e f g = record {
     told = sym e;

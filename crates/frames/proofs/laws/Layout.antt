@@ -1,5 +1,7 @@
 -- The frame by its rule, as the code has it: what is laid out and taken out is what the printed frame says, and so is what is fixed.
-use Rattle.std.specs.Prelude.{Bool, false, ◌≡◌, refl, ltb, length, drop}
+use Rattle.std.specs.Prelude.{Bool, false, ◌≡◌, ◌≢◌, refl, ltb, length, drop, MatchBool}
+use Rattle.std.specs.List.{AllWithin, HoldsAt, range_with_len}
+use Rattle.std.proofs.lemmas.List.FromFn.{get_or-range_with_len}
 use Rattle.std.proofs.Math.Bool.{true}
 use mathlib.Core.List.{List, ◌∷◌, ◌++◌}
 use Rattle.std.proofs.Math.Logic.{⊎_elim}
@@ -12,7 +14,7 @@ use Rattle.std.proofs.Math.ListN.{get_or, take, get_or-replicate, get_or-eq_defa
 use Rattle.std.proofs.Math.Seq.{get_or-take, get_or-drop}
 use borrow.Author.Tests.{eqb-true, eq-eqb, ne_eqb, lt-ltb, le-ltb}
 use Rattle.bits.specs.Bits.{Bits, NoneOver, pick, tab, ones, none_over}
-use Rattle.bits.proofs.laws.Cases.{lt_or_le}
+use Rattle.bits.proofs.laws.Cases.{lt_or_le, not_true}
 use Rattle.bits.proofs.laws.Check.{none_over_lem, over_none}
 use Rattle.bits.proofs.laws.Parts.{length_lent}
 use Rattle.bits.proofs.laws.Sum.{bits_append, bits_take, bits_drop, bits_ones}
@@ -283,3 +285,14 @@ module _ (f : List ℕ) where
           (λ (b : k < 16). ap (λ (q : Place). right q (get_or f k 0)) (at_sync k b) ∙ eq-eqb (get_or f k 0) 0 (first k b))
           (λ (l : 16 ≤ k). later k l h)
           (lt_or_le k 16)
+
+-- the groups that are looked at, the second sixteen bits' to the last, and what is found of them
+pub framed : (f : List ℕ) → none_over 0 (take 16 f) ≡ true → (r : Bool)
+    → MatchBool r (AllWithin (λ g. get_or f (16 * g) 0 ≡ 1) (range_with_len 1 19) 0 19) ((k : ℕ) × (k < 19) × HoldsAt (λ g. get_or f (16 * g) 0 ≢ 1) (range_with_len 1 19) k)
+    → r ≡ fixed_right f
+framed f n true each =
+    sym (all_right f n
+    (λ g h. let e : 16 * g + 16 ≡ 16 * get_or (range_with_len 1 19) g 0 = omega (arith, get_or-range_with_len 1 19 g 0 h) in ap (λ (k : ℕ). get_or f k 0) e ∙ each g 0 (omega arith) h))
+framed f n false apart =
+    let e : 16 * get_or (range_with_len 1 19) apart.0 0 ≡ 16 * apart.0 + 16 = omega (arith, get_or-range_with_len 1 19 apart.0 0 apart.1) in
+    sym (not_true (fixed_right f) (λ t. apart.2 0 (ap (λ (k : ℕ). get_or f k 0) e ∙ one_right f t apart.0 apart.1)))

@@ -4,8 +4,7 @@ use Rattle.std.proofs.Math.Path.{refl, sym, ap}
 use Rattle.std.proofs.Common.{ap₂, ◌∙◌, ext_get_or, eqb-true}
 use native.Mathlib.Omega.{arith}
 use Rattle.std.proofs.Math.ListN.{get_or}
-use Rattle.answers.specs.Answers.{Answer, of_told}
-use Rattle.answers.specs.declared.Told.{Told}
+use Rattle.answers.specs.Answers.{Answer, of_told, Told}
 use Rattle.bits.specs.Bits.{Bits, tab}
 use Rattle.bits.proofs.laws.Cases.{false_true}
 use Rattle.bits.proofs.laws.Tab.{length_tab, is_tab, tab_same, bits_tab, all_at, all_true, all_same}

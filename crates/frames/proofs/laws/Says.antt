@@ -1,17 +1,14 @@
 -- What writing and reading a frame answer is what Says has.
-use Rattle.std.specs.Prelude.{Bool, true, false, ◌⊎◌, ◌≡◌, refl, ℕ, suc, ◌+◌, ◌-◌, ◌*◌, ◌/◌, ◌%◌, ◌≤◌, ◌<◌, length, take}
+use Rattle.std.specs.Prelude.{Bool, true, false, ◌⊎◌, ◌≡◌, refl, ℕ, suc, ◌+◌, ◌-◌, ◌*◌, ◌/◌, ◌%◌, ◌≤◌, ◌<◌, length, take, None, Ok, Err}
 use mathlib.Core.List.{List}
 use Rattle.std.proofs.Common.{inl, inr, ⊎_elim, ap₂, ◌∙◌, get_or-take, ext_get_or, length-take-le, eqb-true, eq-eqb}
 use Rattle.std.proofs.Math.Path.{sym, ap}
 use native.Mathlib.Omega.{arith}
 use Rattle.std.proofs.Math.ListN.{get_or}
 use Rattle.std.proofs.lemmas.Bool.{eqb-false}
-use Rattle.answers.specs.Answers.{Answer, Refuses, Returns, number_of, of_told, or_none}
-use Rattle.answers.specs.declared.Maybe.TheVariants.{None}
+use Rattle.answers.specs.Answers.{Answer, Refuses, Returns, number_of, of_told, or_none, Told}
 use Rattle.answers.specs.declared.Refusal.{Refusal}
 use Rattle.answers.specs.declared.Refusal.TheVariants.{Length, NotBits, FixedBit, FrameType}
-use Rattle.answers.specs.declared.Told.{Told}
-use Rattle.answers.specs.declared.Told.TheVariants.{Done, Refused}
 use Rattle.bits.specs.Bits.{Bits, pick, all_below, tab, none_over}
 use Rattle.bits.proofs.laws.Cases.{both_first, both_second, not_true, false_true}
 use Rattle.bits.proofs.laws.Check.{none_over_lem, over_none}
@@ -78,10 +75,10 @@ module _ (c d x : List ℕ) where
   abbrev a : Answer Told
   a = frame_written c d x
 
-  refuses_so : (r : Refusal) → write_told c d x ≡ Refused r → Refuses of_told a (number_of r) x
+  refuses_so : (r : Refusal) → write_told c d x ≡ Err r → Refuses of_told a (number_of r) x
   refuses_so r e = let m = write_refused c d x r e in (ap of_told (sym m.result), sym m.left)
 
-  done_so : write_told c d x ≡ Done → Returns of_told a None None (frame c d)
+  done_so : write_told c d x ≡ (Ok tt) → Returns of_told a None None (frame c d)
   done_so e = let m = write_done c d x (frame c d) e refl in (ap of_told (sym m.result), sym m.left)
 
   both_bits : bits_both c d x ≡ true → Bits c × Bits d
@@ -266,10 +263,10 @@ module _ (x c d : List ℕ) where
   abbrev type : Bool
   type = is_speech (control_of (unpacked x))
 
-  refuses_read : (y : Refusal) → read_told c d x ≡ Refused y → FrameRefuses x c d (number_of y)
+  refuses_read : (y : Refusal) → read_told c d x ≡ Err y → FrameRefuses x c d (number_of y)
   refuses_read y e = let m = read_refused c d x y e in record { told = ap of_told (sym m.told); control = sym m.first; speech = sym m.second }
 
-  done_read : read_told c d x ≡ Done → FrameReturns r None (control_read x) (speech_read x)
+  done_read : read_told c d x ≡ (Ok tt) → FrameReturns r None (control_read x) (speech_read x)
   done_read e =
       let m = read_done c d x (control_read x) (speech_read x) e refl refl in
       record { told = ap of_told (sym m.told); control = sym m.first; speech = sym m.second }

@@ -1,9 +1,9 @@
 -- Each contract settles what is answered: no two results, and no two contents of the lent buffers, meet it.
 use Rattle.std.specs.Prelude.{List, ◌≡◌, ℕ}
 use Rattle.std.proofs.Common.{sym, ◌∙◌}
-use Rattle.answers.specs.declared.Told.{Told}
 use Rattle.answers.proofs.laws.Answers.{Settled, meets_once}
 use Rattle.frames.specs.Answers.{frame_written, FrameMeets, frame_read}
+use Rattle.answers.specs.Answers.{Told}
 
 pub write_settled : (c d x : List ℕ) → Settled (frame_written c d x)
 write_settled c d x = meets_once (frame_written c d x)

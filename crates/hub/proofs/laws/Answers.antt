@@ -1,5 +1,5 @@
 -- How each call ends: the tests on the way lead to the answer.
-use Rattle.std.specs.Prelude.{Bool, ◌≡◌, ℕ, ◌≤◌, ◌<◌, ltb}
+use Rattle.std.specs.Prelude.{Bool, ◌≡◌, ℕ, ◌≤◌, ◌<◌, ltb, Ok, Err}
 use Rattle.std.proofs.Math.Bool.{true, false}
 use mathlib.Core.List.{List, []}
 use Rattle.std.proofs.Math.Path.{refl, sym}
@@ -10,16 +10,13 @@ use borrow.Author.Tests.{eqb-true, eqb-false, eq-eqb, le-leb, lt-leb, ltb-true, 
 use Rattle.bits.specs.Bits.{Symbols, none_over}
 use Rattle.bits.proofs.laws.Check.{none_over_lem, over_none}
 use Rattle.bits.proofs.laws.Cases.{both_first, both_second, not_true, false_true}
-use Rattle.answers.specs.Answers.{Answer, Meets, of_heard, or_none, sent_or}
+use Rattle.answers.specs.Answers.{Answer, Meets, of_heard, or_none, sent_or, Told}
 use Rattle.answers.specs.declared.Refusal.{Refusal}
 use Rattle.answers.specs.declared.Refusal.TheVariants.{Length, NotBits, Identity, Taken, AllInUse, EmptyPlace, NoneAccepts}
-use Rattle.answers.specs.declared.Told.{Told}
-use Rattle.answers.specs.declared.Told.TheVariants.{Done, Refused}
 use Rattle.answers.proofs.laws.Answers.{meets_as}
 use Rattle.coder.specs.Entries.{Given, lengths}
 use Rattle.coder.specs.Received.{access_received}
-use Rattle.coder.specs.Whose.{any_access_received, HandsOver}
-use Rattle.coder.specs.declared.Whose.{Whose}
+use Rattle.coder.specs.Whose.{Whose, named, any_access_received, HandsOver}
 use Rattle.coder.proofs.laws.Whose.{any_access_says}
 use Rattle.hub.specs.Hub.{nobody, standing, who_at, place_of, stands_now, afterwards, enrol_judged, enrol_told, enrol_answer, remove_told, remove_answer, accepts, accepting_place, hear_judged, hear_told, hear_answer, enrol, remove, hear, hub_answer}
 use Rattle.hub.specs.declared.Answered.{Answered}
@@ -28,7 +25,6 @@ use Rattle.hub.specs.declared.Said.{Said}
 use Rattle.hub.proofs.laws.Heard.{tells_named, tells_refused, accepts_one}
 use Rattle.hub.proofs.laws.Places.{first_same}
 use Rattle.hub.proofs.laws.Standing.{found_there}
-use Rattle.coder.specs.declared.Whose.TheVariants as whose
 use Rattle.hub.specs.declared.Said.TheVariants as said
 use Rattle.hub.specs.laws.Answers.{goes, refuses}
 
@@ -46,7 +42,7 @@ module _ (h : Hub) (i : ℕ) where
   unfolding enrol_answer enrol_told enrol_judged afterwards
   enrols_full l none full = rw (le-leb i 63 l, le-ltb (place_of h i) 30 none, le-ltb (place_of h nobody) 30 full) refl
 
-  pub enrols : i ≤ 63 → 30 ≤ place_of h i → place_of h nobody < 30 → enrol_answer h i ≡ record { said = said.Place (place_of h nobody); next = stands_now h (place_of h nobody) i }
+  pub enrols : i ≤ 63 → 30 ≤ place_of h i → place_of h nobody < 30 → enrol_answer h i ≡ record { said = Ok (said.Place (place_of h nobody)); next = stands_now h (place_of h nobody) i }
   unfolding enrol_answer enrol_told enrol_judged afterwards
   enrols l none free = rw (le-leb i 63 l, le-ltb (place_of h i) 30 none, lt-ltb (place_of h nobody) 30 free) refl
 
@@ -60,12 +56,12 @@ module _ (h : Hub) (p : ℕ) where
   unfolding remove_answer remove_told afterwards
   removes_none l empty = rw (lt-ltb p 30 l, lt-leb (who_at h p) 63 empty) refl
 
-  pub removes : p < 30 → who_at h p ≤ 63 → remove_answer h p ≡ record { said = said.Removed; next = stands_now h p nobody }
+  pub removes : p < 30 → who_at h p ≤ 63 → remove_answer h p ≡ record { said = Ok said.Removed; next = stands_now h p nobody }
   unfolding remove_answer remove_told afterwards
   removes l stands = rw (lt-ltb p 30 l, le-leb (who_at h p) 63 stands) refl
 
 module _ (h : Hub) (i k : ℕ) (bits d : List ℕ) where
-  pub goes_there : place_of h i < 30 → goes h i k bits d ≡ record { result = record { said = said.Request (place_of h i) k; next = h }; left = bits }
+  pub goes_there : place_of h i < 30 → goes h i k bits d ≡ record { result = record { said = Ok (said.Request (place_of h i) k); next = h }; left = bits }
   unfolding goes afterwards sent_or
   goes_there stands = rw (lt-ltb (place_of h i) 30 stands) refl
 
@@ -76,8 +72,8 @@ module _ (h : Hub) (i k : ℕ) (bits d : List ℕ) where
 -- whatever is told of it, the hub is as before
 stays : (t : Told) (x : Said) (h : Hub) → (afterwards t x h h).next ≡ h
 unfolding afterwards
-stays Done x h = refl
-stays (Refused r) x h = refl
+stays (Ok done) x h = refl
+stays (Err r) x h = refl
 
 pub hears_only : (h : Hub) (e d : List ℕ) → (hear_answer h e d).result.next ≡ h
 unfolding hear_answer
@@ -86,8 +82,8 @@ hears_only h e d =
 
 -- what one decoding says is handed on
 unfoldable pub handed_on : Hub → Whose → List ℕ → List ℕ → Answer Answered
-handed_on h (whose.Named i k) bits d = goes h i k bits d
-handed_on h (whose.Refused r) bits d = record { result = refuses r h; left = d }
+handed_on h (Ok x) bits d = goes h x.identity x.count bits d
+handed_on h (Err r) bits d = record { result = refuses r h; left = d }
 
 module _ (h : Hub) (e d : List ℕ) where
   pub hears_length : ((length e ≡ 36) × (length d ≡ 8) → ⊥) → hear_answer h e d ≡ record { result = refuses Length h; left = d }
@@ -162,19 +158,24 @@ module _ (h : Hub) (r : Answered) where
   hear_met e d left f = meets_as (hear_answer h e d) r left f
 
   module _ (w : Whose) (bits d : List ℕ) where
-    pub on_named : (i k : ℕ) → w ≡ whose.Named i k → (left : List ℕ) → Meets (goes h i k bits d) r left → Meets (handed_on h w bits d) r left
+    pub on_named : (i k : ℕ) → w ≡ Ok (named i k) → (left : List ℕ) → Meets (goes h i k bits d) r left → Meets (handed_on h w bits d) r left
     unfolding handed_on
     on_named i k f left m = rw f m
 
-    pub on_refused : (x : Refusal) → w ≡ whose.Refused x → r ≡ refuses x h → Meets (handed_on h w bits d) r d
+    pub on_refused : (x : Refusal) → w ≡ Err x → r ≡ refuses x h → Meets (handed_on h w bits d) r d
     unfolding handed_on
     on_refused x f g = rw f (record { result = g; left = refl })
 
     -- what one decoding says, handed on, is the hub's answer
-    pub heard_on : (e own left : List ℕ) → length h.places ≡ 30 → length own ≡ 8 → length d ≡ 8 → Meets (any_access_received e own) w bits → Meets (handed_on h w bits d) r left
-        → Meets (hub_answer h (hear e d)) r left
-    heard_on e own left thirty lo ld m o =
-        hear_met e d left
+    pub heard_so : (e own left : List ℕ) → length h.places ≡ 30 → length own ≡ 8 → length d ≡ 8 → Meets (any_access_received e own) w bits → Meets (handed_on h w bits d) r left
+        → Meets (hear_answer h e d) r left
+    heard_so e own left thirty lo ld m o =
+        meets_as (hear_answer h e d) r left
         (ap₂ (λ (x : Answered) (y : List ℕ). record { result = x; left = y }) o.result o.left
         ∙ ap₂ (λ (x : Whose) (y : List ℕ). handed_on h x y d) m.result m.left
         ∙ sym (one_decoding h e d thirty own lo ld))
+
+    pub heard_on : (e own left : List ℕ) → length h.places ≡ 30 → length own ≡ 8 → length d ≡ 8 → Meets (any_access_received e own) w bits → Meets (handed_on h w bits d) r left
+        → Meets (hub_answer h (hear e d)) r left
+    unfolding hub_answer
+    heard_on e own left thirty lo ld m o = heard_so e own left thirty lo ld m o

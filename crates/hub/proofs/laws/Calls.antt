@@ -1,5 +1,5 @@
 -- One call more: who stands where afterwards. And any calls: the places are those that the calls say.
-use Rattle.std.specs.Prelude.{Bool, true, false, ◌⊎◌, ◌≡◌, refl, ℕ, ◌≤◌, eqb}
+use Rattle.std.specs.Prelude.{Bool, true, false, ◌⊎◌, ◌≡◌, refl, ℕ, ◌≤◌, eqb, Ok, Err}
 use mathlib.Core.List.{List, [], ◌∷◌}
 use Rattle.std.proofs.Math.Logic.{inl, inr, ⊎_elim}
 use Rattle.std.proofs.Math.Path.{sym, ap, subst}
@@ -10,12 +10,11 @@ use Rattle.answers.specs.Calls.{Happened, handed_back}
 use Rattle.answers.specs.declared.Refusal.TheVariants.{EmptyPlace}
 use Rattle.answers.proofs.laws.Calls.{every_order}
 use Rattle.hub.specs.Classroom.{HubGave, hub_answers, Kept, EnrolledBy, AsTheCallsSay, UsedAgain}
-use Rattle.hub.specs.Hub.{nobody, who_at, fresh_hub, stands_now, enrol_answer, remove_answer, Call, enrol, remove, hear, hub_answer}
+use Rattle.hub.specs.Hub.{HubSaid, nobody, who_at, fresh_hub, stands_now, enrol_answer, remove_answer, Call, enrol, remove, hear, hub_answer}
 use Rattle.hub.specs.Says.{place_said, Thirty, StandsAt, Absent, SmallestFree}
 use Rattle.hub.specs.declared.Answered.{Answered}
 use Rattle.hub.specs.declared.Hub.{Hub}
-use Rattle.hub.specs.declared.Said.{Said}
-use Rattle.hub.specs.declared.Said.TheVariants.{Place, Refused, Removed}
+use Rattle.hub.specs.declared.Said.TheVariants.{Place, Removed}
 use Rattle.hub.specs.laws.Answers.{refuses}
 use Rattle.hub.proofs.laws.Answers.{hears_only}
 use Rattle.hub.proofs.laws.Ends.{NotEnrolled, Enrolled, enrol_ends, NotRemoved, Freed, remove_ends}
@@ -58,12 +57,12 @@ module _ (h : Hub) (thirty : Thirty h) where
 
   module _ (j : ℕ) (n : Enrolled h j) where
     abbrev done : Answered
-    done = record { said = Place n.place; next = stands_now h n.place j }
+    done = record { said = Ok (Place n.place); next = stands_now h n.place j }
 
     enrolled_hub : next_of h (enrol j) ≡ stands_now h n.place j
     enrolled_hub = enrol_next j done n.is
 
-    enrolled_place : (hub_answer h (enrol j)).result.said ≡ Place n.place
+    enrolled_place : (hub_answer h (enrol j)).result.said ≡ Ok (Place n.place)
     enrolled_place = enrol_said j done n.is
 
     enrolled_there : StandsAt (stands_now h n.place j) n.place j
@@ -75,7 +74,7 @@ module _ (h : Hub) (thirty : Thirty h) where
 
   module _ (q : ℕ) (n : Freed h q) where
     freed_hub : next_of h (remove q) ≡ stands_now h q nobody
-    freed_hub = remove_next q (record { said = Removed; next = stands_now h q nobody }) n.is
+    freed_hub = remove_next q (record { said = Ok Removed; next = stands_now h q nobody }) n.is
 
     freed_there : (i : ℕ) → StandsAt (stands_now h q nobody) q i → ⊥
     freed_there i s =
@@ -95,13 +94,13 @@ module _ (h : Hub) (thirty : Thirty h) where
   module _ (p i : ℕ) where
     -- ---- whoever stands at a place after a call stood there before, and the call does not remove the place; or the call enrolled it there
     abbrev Before : Call → Type 0
-    Before c = (StandsAt h p i × (c ≡ remove p → ⊥)) ⊎ ((c ≡ enrol i) × ((hub_answer h c).result.said ≡ Place p))
+    Before c = (StandsAt h p i × (c ≡ remove p → ⊥)) ⊎ ((c ≡ enrol i) × ((hub_answer h c).result.said ≡ Ok (Place p)))
 
     after_enrol : (j : ℕ) (n : Enrolled h j) (b : Bool) → eqb p n.place ≡ b → StandsAt (stands_now h n.place j) p i → Before (enrol j)
     after_enrol j n true f s =
         let here : p ≡ n.place = eqb-true p n.place f in
         let who : j ≡ i = sym (enrolled_there j n).there ∙ ap (who_at (stands_now h n.place j)) (sym here) ∙ s.there in
-        inr (ap enrol who, enrolled_place j n ∙ ap Place (sym here))
+        inr (ap enrol who, enrolled_place j n ∙ ap (λ (q : ℕ). Ok (Place q)) (sym here))
     after_enrol j n false f s = inl (stood n.place j p i (eqb-false p n.place f) s, λ e. let z : ◌≡◌ {A = ℕ} 0 1 = cc in omega (arith, z))
 
     after_remove : (q : ℕ) (n : Freed h q) (b : Bool) → eqb p q ≡ b → StandsAt (stands_now h q nobody) p i → Before (remove q)
@@ -133,14 +132,14 @@ module _ (h : Hub) (thirty : Thirty h) where
     stands_on (hear e d) s kept = subst (λ (k : Hub). StandsAt k p i) (sym (hear_next e d)) s
 
     -- ---- whoever is enrolled at a place stands there
-    pub stands_new : (c : Call) → c ≡ enrol i → (hub_answer h c).result.said ≡ Place p → StandsAt (next_of h c) p i
+    pub stands_new : (c : Call) → c ≡ enrol i → (hub_answer h c).result.said ≡ Ok (Place p) → StandsAt (next_of h c) p i
     stands_new c e f = subst (λ (x : Call). StandsAt (next_of h x) p i) (sym e) (new (sym (ap (λ (x : Call). (hub_answer h x).result.said) e) ∙ f))
       where
-        new : (hub_answer h (enrol i)).result.said ≡ Place p → StandsAt (next_of h (enrol i)) p i
+        new : (hub_answer h (enrol i)).result.said ≡ Ok (Place p) → StandsAt (next_of h (enrol i)) p i
         new g =
-            ⊎_elim (λ (n : NotEnrolled h i). let r : Refused n.why ≡ Place p = sym (enrol_said i (refuses n.why h) n.is) ∙ g in let z : ◌≡◌ {A = ℕ} 0 1 = cc in let w : ⊥ = omega (arith, z) in absurd w)
+            ⊎_elim (λ (n : NotEnrolled h i). let r : ◌≡◌ {A = HubSaid} (Err n.why) (Ok (Place p)) = sym (enrol_said i (refuses n.why h) n.is) ∙ g in let z : ◌≡◌ {A = ℕ} 0 1 = cc in let w : ⊥ = omega (arith, z) in absurd w)
             (λ (n : Enrolled h i).
-            let here : n.place ≡ p = ap (λ (x : Said). or_none (place_said x)) (sym (enrolled_place i n) ∙ g) in
+            let here : n.place ≡ p = ap (λ (x : HubSaid). or_none (place_said x)) (sym (enrolled_place i n) ∙ g) in
             subst (λ (k : Hub). StandsAt k p i) (sym (enrolled_hub i n)) (subst (λ (q : ℕ). StandsAt (stands_now h n.place i) q i) here (enrolled_there i n))) (enrol_ends h thirty i)
 
   -- ---- a freed place is the smallest free one, if all smaller ones are in use
@@ -178,7 +177,7 @@ module _ (p i : ℕ) where
       let on = thirty_next h thirty c in
       ⊎_elim (λ (k : StandsAt x.result.next p i × Kept p cs).
       ⊎_elim (λ (b : StandsAt h p i × (c ≡ remove p → ⊥)). inl (b.0, (b.1, k.1)))
-      (λ (b : (c ≡ enrol i) × ((hub_answer h c).result.said ≡ Place p)). inr (inl (b.0, ap (λ (r : Answered). r.said) same ∙ b.1, k.1)))
+      (λ (b : (c ≡ enrol i) × ((hub_answer h c).result.said ≡ Ok (Place p))). inr (inl (b.0, ap (λ (r : Answered). r.said) same ∙ b.1, k.1)))
       (next_stands h thirty p i c (subst (λ (r : Answered). StandsAt r.next p i) same k.0)))
       (λ (k : EnrolledBy cs xs p i). inr (inr k))
       (said_by x.result.next (subst (λ (r : Answered). Thirty r.next) (sym same) on) cs xs g.1 s)
@@ -200,7 +199,7 @@ module _ (p i : ℕ) where
   by_calls h thirty (c ∷ cs) (x ∷ xs) g b =
       let same : (hub_answer h c).result ≡ x.result = sym g.0.result in
       let on : Thirty x.result.next = subst (λ (r : Answered). Thirty r.next) same (thirty_next h thirty c) in
-      ⊎_elim (λ (n : (c ≡ enrol i) × (x.result.said ≡ Place p) × Kept p cs).
+      ⊎_elim (λ (n : (c ≡ enrol i) × (x.result.said ≡ Ok (Place p)) × Kept p cs).
       kept_on x.result.next on cs xs g.1
       (subst (λ (r : Answered). StandsAt r.next p i) same (stands_new h thirty p i c n.0 (ap (λ (r : Answered). r.said) same ∙ n.1))) n.2)
       (λ (n : EnrolledBy cs xs p i). by_calls x.result.next on cs xs g.1 n) b

@@ -1,5 +1,5 @@
 -- The promises of Classroom are kept: of every hub that calls lead to, since of every call.
-use Rattle.std.specs.Prelude.{List, ◌≡◌, ℕ}
+use Rattle.std.specs.Prelude.{List, ◌≡◌, ℕ, Ok}
 use Rattle.std.proofs.Common.{⊎_elim, sym, ap, ◌∙◌, subst, arith}
 use Rattle.answers.specs.Answers.{or_none}
 use Rattle.answers.specs.declared.Returned.{Returned}
@@ -13,10 +13,9 @@ use Rattle.coder.proofs.laws.Promises.{access_bears}
 use Rattle.coder.proofs.laws.Says.{access_receives}
 use Rattle.coder.proofs.laws.Whose.{hands_over}
 use Rattle.hub.specs.Classroom.{Always, OnePlace, NotByTwo, GivenRightly, WhoAcceptsIsGiven, ReachesPlace, BearsToPlace, UsedAgain}
-use Rattle.hub.specs.Hub.{nobody, who_at, fresh_hub, Call, enrol, remove, hub_answer}
+use Rattle.hub.specs.Hub.{HubSaid, nobody, who_at, fresh_hub, Call, enrol, remove, hub_answer}
 use Rattle.hub.specs.Says.{place_said, Thirty, StandsAt}
 use Rattle.hub.specs.declared.Hub.{Hub}
-use Rattle.hub.specs.declared.Said.{Said}
 use Rattle.hub.specs.declared.Said.TheVariants.{Place}
 use Rattle.hub.proofs.laws.Calls.{next_of, thirty_next, next_stands, used_again}
 use Rattle.hub.proofs.laws.Says.{enrol_says, hear_says, accepts_named}
@@ -35,7 +34,7 @@ fresh_sound = record {
 
 module _ (h : Hub) (c : Call) (sound : Sound h) where
   -- an identity that is enrolled stood nowhere
-  stood_nowhere : (i p q : ℕ) → c ≡ enrol i → (hub_answer h c).result.said ≡ Place p → StandsAt h q i → ⊥
+  stood_nowhere : (i p q : ℕ) → c ≡ enrol i → (hub_answer h c).result.said ≡ Ok (Place p) → StandsAt h q i → ⊥
   stood_nowhere i p q e f s =
       ((enrol_says h sound.thirty i).only p (ap place_said (sym (ap (λ (x : Call). (hub_answer h x).result.said) e) ∙ f))).1 q s
 
@@ -43,11 +42,11 @@ module _ (h : Hub) (c : Call) (sound : Sound h) where
   one_next i p q s t =
       ⊎_elim (λ (b : StandsAt h p i × (c ≡ remove p → ⊥)).
       ⊎_elim (λ (d : StandsAt h q i × (c ≡ remove q → ⊥)). sound.one i p q b.0 d.0)
-      (λ (d : (c ≡ enrol i) × ((hub_answer h c).result.said ≡ Place q)). absurd (stood_nowhere i q p d.0 d.1 b.0))
+      (λ (d : (c ≡ enrol i) × ((hub_answer h c).result.said ≡ Ok (Place q))). absurd (stood_nowhere i q p d.0 d.1 b.0))
       (next_stands h sound.thirty q i c t))
-      (λ (b : (c ≡ enrol i) × ((hub_answer h c).result.said ≡ Place p)).
+      (λ (b : (c ≡ enrol i) × ((hub_answer h c).result.said ≡ Ok (Place p))).
       ⊎_elim (λ (d : StandsAt h q i × (c ≡ remove q → ⊥)). absurd (stood_nowhere i p q b.0 b.1 d.0))
-      (λ (d : (c ≡ enrol i) × ((hub_answer h c).result.said ≡ Place q)). ap (λ (x : Said). or_none (place_said x)) (sym b.1 ∙ d.1))
+      (λ (d : (c ≡ enrol i) × ((hub_answer h c).result.said ≡ Ok (Place q))). ap (λ (x : HubSaid). or_none (place_said x)) (sym b.1 ∙ d.1))
       (next_stands h sound.thirty q i c t))
       (next_stands h sound.thirty p i c s)
 

@@ -1,5 +1,5 @@
 -- In which ways an enrolment and a removal end.
-use Rattle.std.specs.Prelude.{◌⊎◌, ◌≡◌, refl, ℕ, ◌≤◌, ◌<◌}
+use Rattle.std.specs.Prelude.{◌⊎◌, ◌≡◌, refl, ℕ, ◌≤◌, ◌<◌, Ok}
 use Rattle.std.proofs.Common.{inl, inr, ⊎_elim, arith}
 use Rattle.bits.proofs.laws.Cases.{lt_or_le}
 use Rattle.answers.specs.declared.Refusal.{Refusal}
@@ -22,7 +22,7 @@ pub record Enrolled (h : Hub) (i : ℕ) : Type 0 where
   pub within : i ≤ 63
   pub absent : Absent h i
   pub free : SmallestFree h place
-  pub is : enrol_answer h i ≡ record { said = Place place; next = stands_now h place i }
+  pub is : enrol_answer h i ≡ record { said = Ok (Place place); next = stands_now h place i }
 
 pub enrol_ends : (h : Hub) → Thirty h → (i : ℕ) → NotEnrolled h i ⊎ Enrolled h i
 enrol_ends h thirty i =
@@ -41,7 +41,7 @@ pub record NotRemoved (h : Hub) (p : ℕ) : Type 0 where
 
 pub record Freed (h : Hub) (p : ℕ) : Type 0 where
   pub stands : StandsAt h p (who_at h p)
-  pub is : remove_answer h p ≡ record { said = Removed; next = stands_now h p nobody }
+  pub is : remove_answer h p ≡ record { said = Ok Removed; next = stands_now h p nobody }
 
 pub remove_ends : (h : Hub) (p : ℕ) → NotRemoved h p ⊎ Freed h p
 remove_ends h p =

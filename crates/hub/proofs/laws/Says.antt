@@ -1,5 +1,5 @@
 -- What enrol, remove and hear answer is what Says has, for every value of a hub.
-use Rattle.std.specs.Prelude.{Bool, true, false, ◌≡◌, refl, ℕ, ◌≤◌, ◌<◌, eqb, length}
+use Rattle.std.specs.Prelude.{Bool, true, false, ◌≡◌, refl, ℕ, ◌≤◌, ◌<◌, eqb, length, Option, None, Some, Ok, Err}
 use mathlib.Core.List.{List, []}
 use Rattle.std.proofs.Common.{⊎_elim, sym, ◌∙◌, subst, arith, eqb-true, eq-eqb}
 use Rattle.std.proofs.Math.Path.{ap}
@@ -8,8 +8,6 @@ use Rattle.bits.specs.Bits.{Symbols, none_over}
 use Rattle.bits.proofs.laws.Cases.{lt_or_le, both_first, both_second, false_true}
 use Rattle.bits.proofs.laws.Check.{none_over_lem, over_none}
 use Rattle.answers.specs.Answers.{Answer, number_of, or_none, of_heard}
-use Rattle.answers.specs.declared.Maybe.{Maybe}
-use Rattle.answers.specs.declared.Maybe.TheVariants.{None, Some}
 use Rattle.answers.specs.declared.Refusal.{Refusal}
 use Rattle.answers.specs.declared.Refusal.TheVariants as refusal
 use Rattle.answers.specs.declared.Returned.{Returned}
@@ -19,20 +17,19 @@ use Rattle.coder.specs.Says.{Accepts}
 use Rattle.coder.specs.Whose.{HandsOver}
 use Rattle.coder.proofs.laws.Says.{access_receives}
 use Rattle.coder.proofs.laws.Whose.{hands_over}
-use Rattle.hub.specs.Hub.{nobody, who_at, place_of, stands_now, enrol_answer, remove_answer, hear_answer, enrol, remove, hear, hub_answer, Call}
+use Rattle.hub.specs.Hub.{HubSaid, nobody, who_at, place_of, stands_now, enrol_answer, remove_answer, hear_answer, enrol, remove, hear, hub_answer, Call}
 use Rattle.hub.specs.Says.{of_said, place_said, HubReturns, HubRefuses, Thirty, Absent, SmallestFree, EnrolSays, RemoveSays, AcceptedAt, NoneAccepts, Hears, HearSays}
 use Rattle.hub.specs.declared.Answered.{Answered}
 use Rattle.hub.specs.declared.Hub.{Hub}
-use Rattle.hub.specs.declared.Said.{Said}
-use Rattle.hub.specs.declared.Said.TheVariants.{Place, Removed, Request, Refused}
+use Rattle.hub.specs.declared.Said.TheVariants.{Place, Removed, Request}
 use Rattle.hub.specs.laws.Answers.{refuses, goes}
 use Rattle.hub.proofs.laws.Answers.{enrols_none, enrols_taken, enrols_full, enrols, removes, goes_there, goes_nowhere, hears_length, hears_symbols, hears, hears_only}
 use Rattle.hub.proofs.laws.Ends.{NotEnrolled, Enrolled, enrol_ends, NotRemoved, Freed, remove_ends}
 use Rattle.hub.proofs.laws.Standing.{found_there, found_first, found_at, found_within, absent_nowhere, smallest_found, all_in_use}
 
 -- an answer that is this one returns this
-returns_so : (a : Answer Answered) (x : Said) (left : List ℕ) (next : Hub) → a ≡ record { result = record { said = x; next = next }; left = left }
-    → (number place count : Maybe) → of_said x ≡ record { number = number; count = count } → place_said x ≡ place → HubReturns a number place count left next
+returns_so : (a : Answer Answered) (x : HubSaid) (left : List ℕ) (next : Hub) → a ≡ record { result = record { said = x; next = next }; left = left }
+    → (number place count : Option ℕ) → of_said x ≡ record { number = number; count = count } → place_said x ≡ place → HubReturns a number place count left next
 returns_so a x left next e number place count f g = record {
   told = ap (λ (b : Answer Answered). of_said b.result.said) e ∙ f;
   where_to = ap (λ (b : Answer Answered). place_said b.result.said) e ∙ g;
@@ -41,10 +38,10 @@ returns_so a x left next e number place count f g = record {
 }
 
 refuses_so : (h : Hub) (c : Call) (r : Refusal) (left : List ℕ) → hub_answer h c ≡ record { result = refuses r h; left = left } → HubRefuses h c (number_of r) left
-refuses_so h c r left e = returns_so (hub_answer h c) (Refused r) left h e (Some (number_of r)) None None refl refl
+refuses_so h c r left e = returns_so (hub_answer h c) (Err r) left h e (Some (number_of r)) None None refl refl
 
 -- a refusal has no place
-no_place : (r : Refusal) (p : ℕ) → place_said (Refused r) ≡ Some p → ⊥
+no_place : (r : Refusal) (p : ℕ) → place_said (Err r) ≡ Some p → ⊥
 no_place r p e = let z : ◌≡◌ {A = ℕ} 0 1 = cc in omega (arith, z)
 
 -- ---- enrol
@@ -58,7 +55,7 @@ module _ (h : Hub) (thirty : Thirty h) (i : ℕ) where
   enrolled p q =
       ⊎_elim (λ (n : NotEnrolled h i). absurd (no_place n.why p (said_so (refuses n.why h) n.is)))
       (λ (n : Enrolled h i).
-      let at_p : n.place ≡ p = ap or_none (said_so (record { said = Place n.place; next = stands_now h n.place i }) n.is) in
+      let at_p : n.place ≡ p = ap or_none (said_so (record { said = Ok (Place n.place); next = stands_now h n.place i }) n.is) in
       (n.within, n.absent, subst (SmallestFree h) at_p n.free))
       (enrol_ends h thirty i)
     where
@@ -73,9 +70,9 @@ module _ (h : Hub) (thirty : Thirty h) (i : ℕ) where
     done = λ l none p f.
         let is : place_of h nobody ≡ p = smallest_found h thirty p f in
         let m : place_of h nobody < 30 = omega (arith, is, f.place) in
-        returns_so (hub_answer h (enrol i)) (Place p) [] (stands_now h p i)
-        (enrol_so (record { said = Place p; next = stands_now h p i })
-        (enrols h i l (absent_nowhere h thirty i l none) m ∙ ap (λ (q : ℕ). record { said = Place q; next = stands_now h q i }) is))
+        returns_so (hub_answer h (enrol i)) (Ok (Place p)) [] (stands_now h p i)
+        (enrol_so (record { said = Ok (Place p); next = stands_now h p i })
+        (enrols h i l (absent_nowhere h thirty i l none) m ∙ ap (λ (q : ℕ). record { said = Ok (Place q); next = stands_now h q i }) is))
         None (Some p) None refl refl;
     only = enrolled;
   }
@@ -98,8 +95,8 @@ module _ (h : Hub) (p : ℕ) where
         ⊎_elim (λ (n : NotRemoved h p). refuses_so h (remove p) refusal.EmptyPlace [] (remove_so (refuses refusal.EmptyPlace h) n.is))
         (λ (n : Freed h p). absurd (none (who_at h p) n.stands)) (remove_ends h p);
     done = λ i s.
-        returns_so (hub_answer h (remove p)) Removed [] (stands_now h p nobody)
-        (remove_so (record { said = Removed; next = stands_now h p nobody }) (removes h p (omega (arith, s.place)) (omega (arith, s.there, s.identity))))
+        returns_so (hub_answer h (remove p)) (Ok Removed) [] (stands_now h p nobody)
+        (remove_so (record { said = Ok Removed; next = stands_now h p nobody }) (removes h p (omega (arith, s.place)) (omega (arith, s.there, s.identity))))
         None None None refl refl;
     only = λ q. ⊎_elim (λ (n : NotRemoved h p). absurd (numbered n.is q)) (λ (n : Freed h p). n.stands) (remove_ends h p);
   }
@@ -118,7 +115,7 @@ module _ (h : Hub) (thirty : Thirty h) (e d : List ℕ) where
     goes_so : hub_answer h (hear e d) ≡ goes h x.identity x.count x.bits d
     goes_so = hear_so (goes h x.identity x.count x.bits d) (hears h e d thirty g x)
 
-    there_so : place_of h x.identity < 30 → hub_answer h (hear e d) ≡ record { result = record { said = Request (place_of h x.identity) x.count; next = h }; left = x.bits }
+    there_so : place_of h x.identity < 30 → hub_answer h (hear e d) ≡ record { result = record { said = Ok (Request (place_of h x.identity) x.count); next = h }; left = x.bits }
     there_so l = goes_so ∙ goes_there h x.identity x.count x.bits d l
 
     nowhere_so : 30 ≤ place_of h x.identity → hub_answer h (hear e d) ≡ record { result = refuses refusal.NoneAccepts h; left = d }
@@ -175,8 +172,8 @@ module _ (h : Hub) (thirty : Thirty h) (e d : List ℕ) where
         found_at h x.identity thirty p a.stands.place (a.stands.there ∙ same.0)
         (λ q m there. a.smaller q x.identity m (record { place = omega (arith, m, a.stands.place); identity = x.within; there = there }) x.count x.bits (x.accepted d g.lends)) in
         let l : place_of h x.identity < 30 = omega (arith, at_p, a.stands.place) in
-        returns_so (hub_answer h (hear e d)) (Request (place_of h x.identity) x.count) bits h
-        (there_so l ∙ ap (λ (b : List ℕ). record { result = record { said = Request (place_of h x.identity) x.count; next = h }; left = b }) (sym same.2))
+        returns_so (hub_answer h (hear e d)) (Ok (Request (place_of h x.identity) x.count)) bits h
+        (there_so l ∙ ap (λ (b : List ℕ). record { result = record { said = Ok (Request (place_of h x.identity) x.count); next = h }; left = b }) (sym same.2))
         None (Some p) (Some count) (ap (λ (k : ℕ). record { number = None; count = Some k }) (sym same.1)) (ap Some at_p)
 
   -- a place is said only of 36 bytes, none over 2, and eight lent ones

@@ -1,16 +1,18 @@
 -- Who stands where, and at which place somebody is found.
-use Rattle.std.specs.Prelude.{Bool, true, false, ◌≡◌, refl, ℕ, ◌≤◌, ◌<◌, eqb, leb, get_or}
-use Rattle.std.proofs.Common.{⊎_elim, ◌∙◌, arith, get_or-set_same, get_or-set_other}
+use Rattle.std.specs.Prelude.{Bool, true, false, ◌≡◌, ◌≢◌, refl, ℕ, ◌≤◌, ◌<◌, eqb, leb, ltb, get_or, Option, None, Some, MatchOption}
+use Rattle.std.proofs.Common.{⊎_elim, sym, ◌∙◌, arith, get_or-set_same, get_or-set_other}
 use Rattle.std.proofs.Math.Path.{ap}
 use Rattle.std.proofs.Math.ListN.{length-set}
-use borrow.Author.Tests.{eqb-true, eqb-false, eq-eqb, ne_eqb, leb-true, le-leb}
+use borrow.Author.Tests.{eqb-true, eqb-false, eq-eqb, ne_eqb, leb-true, le-leb, lt-ltb, le-ltb}
 use Rattle.bits.specs.Bits.{pick}
 use Rattle.bits.proofs.laws.Cases.{lt_or_le}
 use Rattle.bits.proofs.laws.Tab.{length_tab, at_tab}
 use Rattle.hub.specs.Hub.{nobody, standing, who_at, place_of, fresh_hub, stands_now}
 use Rattle.hub.specs.Says.{Thirty, Absent, SmallestFree, FreshSays, NowStands}
 use Rattle.hub.specs.declared.Hub.{Hub}
+use Rattle.hub.specs.laws.Answers.{place_found}
 use Rattle.hub.proofs.laws.Places.{first, first_some, first_is}
+use Rattle.std.specs.Option.{is_some}
 
 -- ---- who is not nobody is an identity, and an identity stands as itself
 pub standing_within : (x : ℕ) → (standing x ≡ nobody → ⊥) → standing x ≤ 63
@@ -103,3 +105,40 @@ fresh_says = record {
   thirty = length_tab 30 (λ p. nobody);
   empty = λ p l. ap standing (at_tab 30 (λ q. nobody) p (omega (arith, l))) ∙ standing_nobody;
 }
+
+-- ---- the place that is found, as the code looks for it: none, or the smallest at which he stands
+module _ (h : Hub) (who : ℕ) where
+  found_at_all : (b : Bool) → ltb (place_of h who) 30 ≡ b → place_found h who ≡ pick b (Some (place_of h who)) None
+  unfolding place_found
+  found_at_all b e = ap (λ (x : Bool). pick x (Some (place_of h who)) None) e
+
+  pub found_is : place_of h who < 30 → place_found h who ≡ Some (place_of h who)
+  found_is l = found_at_all true (lt-ltb (place_of h who) 30 l)
+
+  pub found_not : 30 ≤ place_of h who → place_found h who ≡ None
+  found_not l = found_at_all false (le-ltb (place_of h who) 30 l)
+
+  -- told the other way round
+  pub some_found : (p : ℕ) → place_found h who ≡ Some p → (place_of h who ≡ p) × (p < 30)
+  some_found p e =
+      ⊎_elim (λ (l : place_of h who < 30). let is : place_of h who ≡ p = let q : Some (place_of h who) ≡ Some p = sym (found_is l) ∙ e in cc in (is, omega (arith, is, l)))
+      (λ (l : 30 ≤ place_of h who). let q : None ≡ Some p = sym (found_not l) ∙ e in cc) (lt_or_le (place_of h who) 30)
+
+  pub any_found : is_some (place_found h who) ≡ true → place_of h who < 30
+  any_found e =
+      ⊎_elim (λ (l : place_of h who < 30). l)
+      (λ (l : 30 ≤ place_of h who). let q : false ≡ true = sym (ap is_some (found_not l)) ∙ e in cc) (lt_or_le (place_of h who) 30)
+
+  pub none_found : is_some (place_found h who) ≡ false → 30 ≤ place_of h who
+  none_found e =
+      ⊎_elim (λ (l : place_of h who < 30). let q : true ≡ false = sym (ap is_some (found_is l)) ∙ e in cc)
+      (λ (l : 30 ≤ place_of h who). l) (lt_or_le (place_of h who) 30)
+
+  -- what a search from place 0 on gives
+  pub search_found : Thirty h → (r : Option ℕ)
+      → MatchOption r ((k : ℕ) → 0 ≤ k → k < 30 → who_at h k ≢ who) (λ i. (0 ≤ i) × (i < 30) × (who_at h i ≡ who) × ((k : ℕ) → 0 ≤ k → k < i → who_at h k ≢ who))
+      → r ≡ place_found h who
+  search_found thirty None none = sym (found_not (found_nowhere h who thirty (λ p l. none p (omega arith) (omega (arith, l)))))
+  search_found thirty (Some i) first =
+      let is : place_of h who ≡ i = found_at h who thirty i (omega (arith, first.1)) first.2 (λ q l. first.3 q (omega arith) l) in
+      sym (found_is (omega (arith, is, first.1)) ∙ ap (λ (p : ℕ). Some p) is)

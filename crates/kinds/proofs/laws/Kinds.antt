@@ -1,5 +1,5 @@
 -- The vote, what coder's entries say of a block, and the rule for as many ones as zeros.
-use Rattle.std.specs.Prelude.{Bool, ◌≡◌, ℕ, ◌<◌, take}
+use Rattle.std.specs.Prelude.{Bool, ◌≡◌, ℕ, ◌<◌, take, Ok, Err, is_ok}
 use Rattle.std.proofs.Math.Bool.{true, false}
 use mathlib.Core.List.{List, ◌++◌}
 use Rattle.std.proofs.Math.Path.{refl, ap, subst}
@@ -8,18 +8,18 @@ use Rattle.std.proofs.Math.ListN.{length, drop}
 use Rattle.std.proofs.Math.Seq.{length-take-le}
 use borrow.Author.Tests.{lt-ltb, le-ltb}
 use Rattle.bits.specs.Bits.{Symbols, pick}
-use Rattle.answers.specs.Answers.{Answer, Meets}
-use Rattle.answers.specs.declared.Heard.{Heard}
+use Rattle.answers.specs.Answers.{Answer, Meets, Heard}
 use Rattle.coder.specs.Entries.{Given}
 use Rattle.coder.specs.Received.{Hearing, block_heard, speech_heard, reception, speech_received, control_received}
 use Rattle.coder.proofs.laws.Heard.{hears_good, hears_bad}
 use Rattle.parity.specs.Division.{control_g}
 use Rattle.chart.specs.declared.Kind.{Kind}
 use Rattle.chart.specs.declared.Kind.TheVariants.{Speech, Facch, Neither}
-use Rattle.chart.specs.declared.Taken.{Taken}
+use Rattle.chart.specs.Answers.{Take}
 use Rattle.kinds.specs.Kinds.{vote, good_or_bad, speech_of, facch_of, tied, by_kind}
 use Rattle.std.specs.Int.Count as count
 use Rattle.chart.specs.declared.Taken.TheVariants as taken
+use Rattle.chart.specs.declared.Untaken.TheVariants as untaken
 use Rattle.kinds.specs.laws.Kinds.{good_as, is_good, as_taken}
 
 -- ---- the vote, by how many of the flags are 1 and how many are 0
@@ -45,7 +45,7 @@ module _ (ones zeros : ℕ) where
 -- the way of an entry that is given what it should be
 module _ (n m : ℕ) (c d : List ℕ) (g : Given 2 n m c d) (h : Hearing) (r : Heard) (after : List ℕ) (said : Meets (reception n m 0 c h d) r after) where
   heard_as : (facch : Bool) (block : ℕ) (b : Bool) → h.good ≡ b
-      → (as_taken facch block r ≡ pick b (good_as facch block h.count) (taken.Bad (record { 0 = block }) h.count)) × (after ≡ pick b h.bits d)
+      → (as_taken facch block r ≡ pick b (good_as facch block h.count) (Err (untaken.Bad (record { 0 = block }) h.count))) × (after ≡ pick b h.bits d)
   unfolding as_taken
   heard_as facch block true e =
       let all = hears_good n m 0 c d (lit≤ tt) g h h.count refl h.bits e refl in
@@ -54,12 +54,12 @@ module _ (n m : ℕ) (c d : List ℕ) (g : Given 2 n m c d) (h : Hearing) (r : H
       let all = hears_bad n m 0 c d (lit≤ tt) g h h.count refl e in
       (ap (as_taken facch block) (said.result ∙ ap (λ (a : Answer Heard). a.result) all), said.left ∙ ap (λ (a : Answer Heard). a.left) all)
 
-picked_told : (b : Bool) (t u : Taken) (x y : List ℕ) → pick b t u ≡ (good_or_bad b t x u y).result
+picked_told : (b : Bool) (t u : Take) (x y : List ℕ) → pick b t u ≡ (good_or_bad b t x u y).result
 unfolding good_or_bad
 picked_told true t u x y = refl
 picked_told false t u x y = refl
 
-picked_left : (b : Bool) (t u : Taken) (x y : List ℕ) → pick b x y ≡ (good_or_bad b t x u y).left
+picked_left : (b : Bool) (t u : Take) (x y : List ℕ) → pick b x y ≡ (good_or_bad b t x u y).left
 unfolding good_or_bad
 picked_left true t u x y = refl
 picked_left false t u x y = refl
@@ -73,8 +73,8 @@ module _ (c d : List ℕ) (n : ℕ) (lc : length c ≡ 456) (bc : Symbols c) (ld
   unfolding speech_received by_kind speech_of
   speech_brought said =
       let h : Hearing = speech_heard c in
-      let good : Taken = taken.Speech (record { 0 = n }) h.count in
-      let bad : Taken = taken.Bad (record { 0 = n }) h.count in
+      let good : Take = Ok (taken.Speech (record { 0 = n }) h.count) in
+      let bad : Take = Err (untaken.Bad (record { 0 = n }) h.count) in
       let both-are = heard_as 456 260 c d (given d ld) h r after said false n h.good refl in
       record { result = both-are.0 ∙ picked_told h.good good bad h.bits d; left = both-are.1 ∙ picked_left h.good good bad h.bits d }
 
@@ -87,8 +87,8 @@ module _ (c d : List ℕ) (n : ℕ) (lc : length c ≡ 456) (bc : Symbols c) (ld
   unfolding control_received by_kind facch_of
   facch_brought said =
       let h : Hearing = block_heard control_g 0 184 c in
-      let good : Taken = taken.Facch (record { 0 = n }) h.count in
-      let bad : Taken = taken.Bad (record { 0 = n }) h.count in
+      let good : Take = Ok (taken.Facch (record { 0 = n }) h.count) in
+      let bad : Take = Err (untaken.Bad (record { 0 = n }) h.count) in
       let l : length (take 184 d) ≡ 184 = length-take-le 184 d (omega (arith, ld)) in
       let both-are = heard_as 456 184 c (take 184 d) (given (take 184 d) l) h r after said true n h.good refl in
       record {
@@ -100,11 +100,11 @@ module _ (c d : List ℕ) (n : ℕ) (lc : length c ≡ 456) (bc : Symbols c) (ld
       }
 
 -- ---- what a good block brings
-pub facch_good : (n : ℕ) (h : Hearing) (d : List ℕ) → h.good ≡ true → facch_of n h d ≡ record { result = taken.Facch (record { 0 = n }) h.count; left = h.bits ++ drop 184 d }
+pub facch_good : (n : ℕ) (h : Hearing) (d : List ℕ) → h.good ≡ true → facch_of n h d ≡ record { result = Ok (taken.Facch (record { 0 = n }) h.count); left = h.bits ++ drop 184 d }
 unfolding facch_of good_or_bad
 facch_good n h d e = rw e refl
 
-pub speech_good : (n : ℕ) (h : Hearing) (d : List ℕ) → h.good ≡ true → speech_of n h d ≡ record { result = taken.Speech (record { 0 = n }) h.count; left = h.bits }
+pub speech_good : (n : ℕ) (h : Hearing) (d : List ℕ) → h.good ≡ true → speech_of n h d ≡ record { result = Ok (taken.Speech (record { 0 = n }) h.count); left = h.bits }
 unfolding speech_of good_or_bad
 speech_good n h d e = rw e refl
 
@@ -118,16 +118,16 @@ module _ (n : ℕ) (control speech : Hearing) (d : List ℕ) where
   unfolding tied
   rule_speech e e' = rw (e, e') refl
 
-  pub rule_neither : control.good ≡ false → speech.good ≡ false → tied n control speech d ≡ record { result = taken.Tie (record { 0 = n }); left = d }
+  pub rule_neither : control.good ≡ false → speech.good ≡ false → tied n control speech d ≡ record { result = Err (untaken.Tie (record { 0 = n })); left = d }
   unfolding tied
   rule_neither e e' = rw (e, e') refl
 
-judged_good : (b : Bool) (t u : Taken) (x y : List ℕ) → is_good t ≡ true → is_good u ≡ false → is_good (good_or_bad b t x u y).result ≡ b
+judged_good : (b : Bool) (t u : Take) (x y : List ℕ) → is_good t ≡ true → is_good u ≡ false → is_good (good_or_bad b t x u y).result ≡ b
 unfolding good_or_bad
 judged_good true t u x y e f = e
 judged_good false t u x y e f = f
 
-bad_leaves : (b : Bool) (t u : Taken) (x y : List ℕ) → b ≡ false → (good_or_bad b t x u y).left ≡ y
+bad_leaves : (b : Bool) (t u : Take) (x y : List ℕ) → b ≡ false → (good_or_bad b t x u y).left ≡ y
 bad_leaves b t u x y e = sym (picked_left b t u x y) ∙ ap (λ (z : Bool). pick z x y) e
 
 -- the block is received as FACCH, and where that is bad, as speech
@@ -140,27 +140,27 @@ module _ (n : ℕ) (c d : List ℕ) where
 
   facch_verdict : is_good (by_kind Facch n c d).result ≡ control.good
   unfolding by_kind facch_of is_good
-  facch_verdict = judged_good control.good (taken.Facch (record { 0 = n }) control.count) (taken.Bad (record { 0 = n }) control.count) (control.bits ++ drop 184 d) d refl refl
+  facch_verdict = judged_good control.good (Ok (taken.Facch (record { 0 = n }) control.count)) (Err (untaken.Bad (record { 0 = n }) control.count)) (control.bits ++ drop 184 d) d refl refl
 
   speech_verdict : is_good (by_kind Speech n c d).result ≡ speech.good
   unfolding by_kind speech_of is_good
-  speech_verdict = judged_good speech.good (taken.Speech (record { 0 = n }) speech.count) (taken.Bad (record { 0 = n }) speech.count) speech.bits d refl refl
+  speech_verdict = judged_good speech.good (Ok (taken.Speech (record { 0 = n }) speech.count)) (Err (untaken.Bad (record { 0 = n }) speech.count)) speech.bits d refl refl
 
-  module _ (r : Taken) (after : List ℕ) (as_facch : Meets (by_kind Facch n c d) r after) where
+  module _ (r : Take) (after : List ℕ) (as_facch : Meets (by_kind Facch n c d) r after) where
     control_is : control.good ≡ is_good r
     control_is = sym facch_verdict ∙ sym (ap is_good as_facch.result)
 
     pub tied_facch : is_good r ≡ true → Meets (by_kind Neither n c d) r after
     unfolding by_kind
-    tied_facch e = subst (λ (a : Answer Taken). Meets a r after) (sym (rule_facch n control speech d (control_is ∙ e))) as_facch
+    tied_facch e = subst (λ (a : Answer Take). Meets a r after) (sym (rule_facch n control speech d (control_is ∙ e))) as_facch
 
     pub tied_left : is_good r ≡ false → after ≡ d
     unfolding by_kind facch_of
     tied_left e =
         as_facch.left
-        ∙ bad_leaves control.good (taken.Facch (record { 0 = n }) control.count) (taken.Bad (record { 0 = n }) control.count) (control.bits ++ drop 184 d) d (control_is ∙ e)
+        ∙ bad_leaves control.good (Ok (taken.Facch (record { 0 = n }) control.count)) (Err (untaken.Bad (record { 0 = n }) control.count)) (control.bits ++ drop 184 d) d (control_is ∙ e)
 
-    module _ (bad : is_good r ≡ false) (s : Taken) (last : List ℕ) (then : Meets (by_kind Speech n c after) s last) where
+    module _ (bad : is_good r ≡ false) (s : Take) (last : List ℕ) (then : Meets (by_kind Speech n c after) s last) where
       as_speech : Meets (by_kind Speech n c d) s last
       as_speech = subst (λ (x : List ℕ). Meets (by_kind Speech n c x) s last) (tied_left bad) then
 
@@ -169,21 +169,58 @@ module _ (n : ℕ) (c d : List ℕ) where
 
       pub tied_speech : is_good s ≡ true → Meets (by_kind Neither n c d) s last
       unfolding by_kind
-      tied_speech e = subst (λ (a : Answer Taken). Meets a s last) (sym (rule_speech n control speech d (control_is ∙ bad) (speech_is ∙ e))) as_speech
+      tied_speech e = subst (λ (a : Answer Take). Meets a s last) (sym (rule_speech n control speech d (control_is ∙ bad) (speech_is ∙ e))) as_speech
 
       speech_left : is_good s ≡ false → last ≡ d
       unfolding by_kind speech_of
       speech_left e =
           as_speech.left
-          ∙ bad_leaves speech.good (taken.Speech (record { 0 = n }) speech.count) (taken.Bad (record { 0 = n }) speech.count) speech.bits d (speech_is ∙ e)
+          ∙ bad_leaves speech.good (Ok (taken.Speech (record { 0 = n }) speech.count)) (Err (untaken.Bad (record { 0 = n }) speech.count)) speech.bits d (speech_is ∙ e)
 
-      pub tied_neither : is_good s ≡ false → Meets (by_kind Neither n c d) (taken.Tie (record { 0 = n })) last
+      pub tied_neither : is_good s ≡ false → Meets (by_kind Neither n c d) (Err (untaken.Tie (record { 0 = n }))) last
       unfolding by_kind
       tied_neither e =
-          subst (λ (a : Answer Taken). Meets a (taken.Tie (record { 0 = n })) last) (sym (rule_neither n control speech d (control_is ∙ bad) (speech_is ∙ e)))
+          subst (λ (a : Answer Take). Meets a (Err (untaken.Tie (record { 0 = n }))) last) (sym (rule_neither n control speech d (control_is ∙ bad) (speech_is ∙ e)))
           (record { result = refl; left = speech_left e })
 
+-- ---- the same by std's is_ok: of what a kind brings, is_ok says what is_good says
+good_is_ok : (b : Bool) (t u : Take) (x y : List ℕ) → is_ok t ≡ is_good t → is_ok u ≡ is_good u → is_ok (good_or_bad b t x u y).result ≡ is_good (good_or_bad b t x u y).result
+unfolding good_or_bad
+good_is_ok true t u x y e f = e
+good_is_ok false t u x y e f = f
+
+module _ (n : ℕ) (c d : List ℕ) (r : Take) (after : List ℕ) where
+  facch_ok : Meets (by_kind Facch n c d) r after → is_ok r ≡ is_good r
+  unfolding by_kind facch_of is_good
+  facch_ok m =
+      let h : Hearing = block_heard control_g 0 184 c in
+      ap is_ok m.result
+      ∙ good_is_ok h.good (Ok (taken.Facch (record { 0 = n }) h.count)) (Err (untaken.Bad (record { 0 = n }) h.count)) (h.bits ++ drop 184 d) d refl refl
+      ∙ sym (ap is_good m.result)
+
+  speech_ok : Meets (by_kind Speech n c d) r after → is_ok r ≡ is_good r
+  unfolding by_kind speech_of is_good
+  speech_ok m =
+      let h : Hearing = speech_heard c in
+      ap is_ok m.result
+      ∙ good_is_ok h.good (Ok (taken.Speech (record { 0 = n }) h.count)) (Err (untaken.Bad (record { 0 = n }) h.count)) h.bits d refl refl
+      ∙ sym (ap is_good m.result)
+
+module _ (n : ℕ) (c d : List ℕ) (r : Take) (after : List ℕ) (as_facch : Meets (by_kind Facch n c d) r after) where
+  pub tied_facch_ok : is_ok r ≡ true → Meets (by_kind Neither n c d) r after
+  tied_facch_ok e = tied_facch n c d r after as_facch (sym (facch_ok n c d r after as_facch) ∙ e)
+
+  module _ (bad : is_ok r ≡ false) (s : Take) (last : List ℕ) (then : Meets (by_kind Speech n c after) s last) where
+    not_facch : is_good r ≡ false
+    not_facch = sym (facch_ok n c d r after as_facch) ∙ bad
+
+    pub tied_speech_ok : is_ok s ≡ true → Meets (by_kind Neither n c d) s last
+    tied_speech_ok e = tied_speech n c d r after as_facch not_facch s last then (sym (speech_ok n c after s last then) ∙ e)
+
+    pub tied_neither_ok : is_ok s ≡ false → Meets (by_kind Neither n c d) (Err (untaken.Tie (record { 0 = n }))) last
+    tied_neither_ok e = tied_neither n c d r after as_facch not_facch s last then (sym (speech_ok n c after s last then) ∙ e)
+
 -- ---- as the kind that the flags say
-pub by_vote : (n ones zeros : ℕ) (c d : List ℕ) (k k' : Kind) → k ≡ vote ones zeros → k ≡ k' → (r : Taken) (after : List ℕ)
+pub by_vote : (n ones zeros : ℕ) (c d : List ℕ) (k k' : Kind) → k ≡ vote ones zeros → k ≡ k' → (r : Take) (after : List ℕ)
     → Meets (by_kind k' n c d) r after → Meets (by_kind (vote ones zeros) n c d) r after
 by_vote n ones zeros c d k k' ek e r after = subst (λ (x : Kind). Meets (by_kind x n c d) r after) (sym e ∙ ek)

@@ -1,5 +1,5 @@
 -- What a block brings is what Says has, by how many of its flags are 1 and how many are 0.
-use Rattle.std.specs.Prelude.{Bool, List, ◌++◌, ◌≡◌, ℕ, ◌≤◌, ◌<◌}
+use Rattle.std.specs.Prelude.{Bool, List, ◌++◌, ◌≡◌, ℕ, ◌≤◌, ◌<◌, Ok, Err}
 use Rattle.std.proofs.Math.Bool.{true, false}
 use Rattle.std.proofs.Common.{⊎_elim, ap, ◌∙◌, arith}
 use Rattle.std.proofs.Math.Path.{refl, sym}
@@ -12,11 +12,11 @@ use Rattle.parity.specs.Division.{control_g}
 use Rattle.coder.specs.Received.{Hearing, block_heard, speech_heard}
 use Rattle.coder.specs.Says.{SpeechDecodes}
 use Rattle.coder.proofs.laws.Says.{control_decodes, speech_decodes}
-use Rattle.chart.specs.Answers.{of_taken}
+use Rattle.chart.specs.Answers.{Take, of_taken}
 use Rattle.chart.specs.declared.Kind.{Kind}
 use Rattle.chart.specs.declared.Kind.TheVariants as kind
-use Rattle.chart.specs.declared.Taken.{Taken}
 use Rattle.chart.specs.declared.Taken.TheVariants as taken
+use Rattle.chart.specs.declared.Untaken.TheVariants as untaken
 use Rattle.chart.specs.declared.Values.{Values}
 use Rattle.kinds.specs.Kinds.{vote, good_or_bad, speech_of, facch_of, tied, by_kind}
 use Rattle.kinds.specs.Says.{AsSpeech, AsFacch, AsBad, AsTie, BlockSays, BothBad}
@@ -24,14 +24,14 @@ use Rattle.kinds.proofs.laws.Kinds.{vote_few, vote_many, vote_even}
 
 -- ---- a block, by its kind: what an answer returns is known of by_kind's
 module _ (ones zeros n : ℕ) (c d : List ℕ) (returns : Values → List ℕ → Type 0)
-    (says : (t : Taken) (left : List ℕ) → by_kind (vote ones zeros) n c d ≡ record { result = t; left = left } → returns (of_taken t) left) where
+    (says : (t : Take) (left : List ℕ) → by_kind (vote ones zeros) n c d ≡ record { result = t; left = left } → returns (of_taken t) left) where
   abbrev speech : Hearing
   speech = speech_heard c
 
   abbrev control : Hearing
   control = block_heard control_g 0 184 c
 
-  abbrev of_kind : Kind → Answer Taken
+  abbrev of_kind : Kind → Answer Take
   of_kind k = by_kind k n c d
 
   abbrev number : BlockNumber
@@ -44,26 +44,26 @@ module _ (ones zeros n : ℕ) (c d : List ℕ) (returns : Values → List ℕ �
         speech = λ h.
             let k = vote_few ones zeros (omega (arith, ef, es, h)) in
             speech_decodes c (AsSpeech returns n) (AsBad returns n d)
-            (λ good. says (taken.Speech number speech.count) speech.bits (ap of_kind k ∙ rw good refl))
-            (λ bad. says (taken.Bad number speech.count) d (ap of_kind k ∙ rw bad refl));
+            (λ good. says (Ok (taken.Speech number speech.count)) speech.bits (ap of_kind k ∙ rw good refl))
+            (λ bad. says (Err (untaken.Bad number speech.count)) d (ap of_kind k ∙ rw bad refl));
         facch = λ h.
             let k = vote_many ones zeros (omega (arith, ef, es, h)) in
             control_decodes c (AsFacch returns n d) (AsBad returns n d)
-            (λ good. says (taken.Facch number control.count) (control.bits ++ drop 184 d) (ap of_kind k ∙ rw good refl))
-            (λ bad. says (taken.Bad number control.count) d (ap of_kind k ∙ rw bad refl));
+            (λ good. says (Ok (taken.Facch number control.count)) (control.bits ++ drop 184 d) (ap of_kind k ∙ rw good refl))
+            (λ bad. says (Err (untaken.Bad number control.count)) d (ap of_kind k ∙ rw bad refl));
         tie = λ h.
             let k = vote_even ones zeros (ef ∙ h ∙ sym es) in
             control_decodes c (AsFacch returns n d) (λ x. SpeechDecodes c (AsSpeech returns n) (AsTie returns n d))
-            (λ good. says (taken.Facch number control.count) (control.bits ++ drop 184 d) (ap of_kind k ∙ rw good refl))
+            (λ good. says (Ok (taken.Facch number control.count)) (control.bits ++ drop 184 d) (ap of_kind k ∙ rw good refl))
             (λ bad.
             speech_decodes c (AsSpeech returns n) (AsTie returns n d)
-            (λ good. says (taken.Speech number speech.count) speech.bits (ap of_kind k ∙ rw (bad, good) refl))
-            (λ worse. says (taken.Tie number) d (ap of_kind k ∙ rw (bad, worse) refl)));
+            (λ good. says (Ok (taken.Speech number speech.count)) speech.bits (ap of_kind k ∙ rw (bad, good) refl))
+            (λ worse. says (Err (untaken.Tie number)) d (ap of_kind k ∙ rw (bad, worse) refl)));
       }
 
 -- ---- 9 is given in no other case than BothBad
 -- the number that take gives, 0 for none
-abbrev pub given : Taken → ℕ
+abbrev pub given : Take → ℕ
 given t = or_none (of_taken t).number
 
 module _ (n : ℕ) (c d : List ℕ) where

@@ -3,8 +3,5 @@ use Rattle.std.proofs.Common.{◌≡◌, length}
 use Rattle.text.specs.Within.{Within}
 use Rattle.kit.proofs.answer_all.Given as goal
 
-abbrev pub invariant-loop-turns : goal.invariant-loop-turns
-invariant-loop-turns l = Within l.rest l.chunk × (length l.chunk ≡ length l.initial.chunk) × (length l.line ≡ length l.initial.line)
-
-abbrev pub decreases-loop-turns : goal.decreases-loop-turns
-decreases-loop-turns l = l.turns
+abbrev pub invariant-loop-turn : goal.invariant-loop-turn
+invariant-loop-turn l = Within l.rest l.chunk × (length l.chunk ≡ length l.initial.chunk) × (length l.line ≡ length l.initial.line)

@@ -1,4 +1,4 @@
--- `marking::ends_in_zeros` is right: the part from the fourth place before the end on is all that stands there.
+-- `marking::ends_in_zeros` is right: the part from the fourth place before the end on is all that stands there. This answer stays, so that the edit tail_one_place_early fails at this fact.
 use mathlib.Core.List.{List}
 use mathlib.Core.Path.{ap, ◌∙◌}
 use Prim.Native.Nat.{ℕ, ◌-◌}

@@ -14,8 +14,7 @@ use Rattle.parity.specs.Division.{parity, remainder, control_g, access_g, sch_g}
 use Rattle.parity.proofs.laws.Division.{parity_only}
 use Rattle.parity.proofs.laws.Generators.{control_long}
 use Rattle.trellis.specs.Nearest.{Candidate, Nearest}
-use Rattle.answers.specs.Answers.{Answer, or_none}
-use Rattle.answers.specs.declared.Heard.{Heard}
+use Rattle.answers.specs.Answers.{Answer, or_none, Heard}
 use Rattle.answers.specs.declared.Returned.{Returned}
 use Rattle.coder.specs.Blocks.{control_u, colour, access_u, sch_u}
 use Rattle.coder.specs.Entries.{Given}

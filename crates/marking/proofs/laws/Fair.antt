@@ -1,6 +1,6 @@
 -- What a class may rely on, once over the channel's numbers: from 01's words of a candidate and the fewest alone, and from the distance of the code where
 -- few bytes are altered or missing.
-use Rattle.std.specs.Prelude.{List, ◌≡◌, ℕ, ◌+◌, ◌*◌, ◌≤◌, ◌<◌, length}
+use Rattle.std.specs.Prelude.{List, ◌≡◌, ℕ, ◌+◌, ◌*◌, ◌≤◌, ◌<◌, length, Ok, Err}
 use Rattle.std.proofs.Common.{⊎_elim, ap, subst, arith}
 use Rattle.bits.specs.Bits.{Symbols, missing}
 use Rattle.bits.proofs.laws.Cases.{lt_or_le}
@@ -8,11 +8,10 @@ use Rattle.convolution.specs.Pairs.{coded}
 use Rattle.trellis.specs.Nearest.{disagreements, Candidate, Nearest, nearest, nearest_count}
 use Rattle.trellis.proofs.laws.Distance.{corrects}
 use Rattle.trellis.proofs.laws.Nearest.{nearest_is, nearest_once}
-use Rattle.marking.specs.Marks.{HasCount, IsFewest, Deserves, counting, Marks}
+use Rattle.marking.specs.Marks.{Mark, HasCount, IsFewest, Deserves, counting, Marks}
 use Rattle.marking.specs.Fair.{Channel, number_in, MarkSays, GetsYes, NearestGetsYes, DecoderGetsYes, TiedGetsYes, OneCount, OnlyBlock, Nearer, NoFewestIsTrue, SentAlone, borne}
 use Rattle.marking.specs.declared.Fault.TheVariants.{Length, Tail, Count, Fewest}
-use Rattle.marking.specs.declared.Mark.{Mark}
-use Rattle.marking.specs.declared.Mark.TheVariants.{Yes, No}
+use Rattle.marking.specs.declared.No.TheVariants.{Wrong}
 use Rattle.marking.proofs.laws.Counted.{counting_long}
 use Rattle.marking.proofs.laws.Marks.{at_most_fewest, deserves_once, marks_deserved, by_tests, yes_refused, no_refused}
 
@@ -27,7 +26,7 @@ record Passed (reads n : ℕ) (r u : List ℕ) (count : ℕ) : Type 0 where
 module _ (reads n : ℕ) (r u : List ℕ) (count : ℕ) where
   passes : Passed reads n r u count → GetsYes reads n r u count
   unfolding Deserves
-  passes p = marks_deserved reads n r u count Yes p.long p.received p.candidate.bits (p.candidate.long, p.candidate.ends, p.counts, p.fewest)
+  passes p = marks_deserved reads n r u count (Ok tt) p.long p.received p.candidate.bits (p.candidate.long, p.candidate.ends, p.counts, p.fewest)
 
   -- it was not refused
   passed : GetsYes reads n r u count → Passed reads n r u count
@@ -47,11 +46,11 @@ mark_says reads n ch r u count m x =
     record {
       one = λ h. ap number_in (x.one h);
       two = λ l h. ap number_in (x.two l h);
-      no_length = λ l s b h. once (No Length) (x.marked l s b) h;
-      no_tail = λ l s b long h. once (No Tail) (x.marked l s b) (long, h);
-      no_count = λ l s b long tail h. once (No Count) (x.marked l s b) (long, tail, h);
-      no_fewest = λ l s b long tail k h. once (No Fewest) (x.marked l s b) (long, tail, k, h);
-      then_yes = λ l s cu k f. once Yes (x.marked l s cu.bits) (cu.long, cu.ends, k, f);
+      no_length = λ l s b h. once (Err (Wrong Length)) (x.marked l s b) h;
+      no_tail = λ l s b long h. once (Err (Wrong Tail)) (x.marked l s b) (long, h);
+      no_count = λ l s b long tail h. once (Err (Wrong Count)) (x.marked l s b) (long, tail, h);
+      no_fewest = λ l s b long tail k h. once (Err (Wrong Fewest)) (x.marked l s b) (long, tail, k, h);
+      then_yes = λ l s cu k f. once (Ok tt) (x.marked l s cu.bits) (cu.long, cu.ends, k, f);
       only_then = λ e. let p = passed reads n r u count (subst (Marks reads n r u count) e x) in (p.long, p.received, p.candidate, p.counts, p.fewest);
     }
 

@@ -1,5 +1,5 @@
 -- What is said is settled: each thing that is asked can be told by a test, and so two answers that are allowed are equal.
-use Rattle.std.specs.Prelude.{Bool, true, false, List, ◌⊎◌, ◌≡◌, ℕ, ◌-◌, ◌≤◌, eqb, length, get_or, drop}
+use Rattle.std.specs.Prelude.{Bool, true, false, List, ◌⊎◌, ◌≡◌, ℕ, ◌-◌, ◌≤◌, eqb, length, get_or, drop, Ok, Err}
 use Rattle.std.proofs.Common.{⊎_elim, inl, inr, sym, ap, ◌∙◌, subst, arith, length-drop, ext_get_or}
 use Rattle.std.proofs.Math.Path.{refl}
 use Rattle.std.proofs.Math.Dec.{leb}
@@ -13,16 +13,14 @@ use Rattle.trellis.specs.Nearest.{disagreements, nearest, nearest_count, longest
 use Rattle.trellis.proofs.laws.Nearest.{nearest_is}
 use Rattle.answers.specs.declared.Refusal.{Refusal}
 use Rattle.answers.specs.declared.Refusal.TheVariants as refusal
-use Rattle.answers.specs.declared.Told.{Told}
-use Rattle.answers.specs.declared.Told.TheVariants as told
 use Rattle.coder.specs.Entries.{judged}
 use Rattle.coder.proofs.laws.Entries.{done_held}
-use Rattle.marking.specs.Marks.{HasLength, HasTail, IsFewest, Deserves, counting, Marks}
+use Rattle.marking.specs.Marks.{Mark, HasLength, HasTail, IsFewest, Deserves, counting, Marks}
 use Rattle.marking.specs.Fair.{Channel}
 use Rattle.marking.specs.declared.Fault.{Fault}
 use Rattle.marking.specs.declared.Fault.TheVariants.{Length, Tail, Count, Fewest}
-use Rattle.marking.specs.declared.Mark.{Mark}
-use Rattle.marking.specs.declared.Mark.TheVariants.{Yes, No, Refused}
+use Rattle.marking.specs.declared.No.TheVariants.{Wrong, Refused}
+use Rattle.answers.specs.Answers.{Told}
 
 -- ---- the final zeros, by a test
 module _ (n : ℕ) (u : List ℕ) where
@@ -54,11 +52,11 @@ module _ (c : List ℕ) (n count : ℕ) (four : 4 ≤ n) (short : n ≤ longest)
 
 -- ---- what a block and its count deserve: the first of four tests that does not hold
 first_of : Bool → Bool → Bool → Bool → Mark
-first_of false t c f = No Length
-first_of true false c f = No Tail
-first_of true true false f = No Count
-first_of true true true false = No Fewest
-first_of true true true true = Yes
+first_of false t c f = Err (Wrong Length)
+first_of true false c f = Err (Wrong Tail)
+first_of true true false f = Err (Wrong Count)
+first_of true true true false = Err (Wrong Fewest)
+first_of true true true true = Ok tt
 
 module _ (n : ℕ) (four : 4 ≤ n) (short : n ≤ longest) (c u : List ℕ) (count : ℕ) where
   abbrev tested : Mark
@@ -66,30 +64,30 @@ module _ (n : ℕ) (four : 4 ≤ n) (short : n ≤ longest) (c u : List ℕ) (co
 
   as_tested : (m : Mark) → Deserves c n u count m → m ≡ tested
   unfolding Deserves first_of
-  as_tested Yes d =
+  as_tested (Ok done) d =
       rw (eq-eqb (length u) n d.0, tail_zero n u d.1, eq-eqb (disagreements c (coded u)) count d.2, le-leb count (nearest_count c n) (fewest_at_most c n count four short d.3)) refl
-  as_tested (No Length) d = rw (ne_eqb (length u) n d) refl
-  as_tested (No Tail) d =
+  as_tested (Err (Wrong Length)) d = rw (ne_eqb (length u) n d) refl
+  as_tested (Err (Wrong Tail)) d =
       rw (eq-eqb (length u) n d.0, not_true (none_over 0 (drop (n - 4) u)) (λ (e : none_over 0 (drop (n - 4) u) ≡ true). d.1 (zero_tail n u four d.0 e))) refl
-  as_tested (No Count) d = rw (eq-eqb (length u) n d.0, tail_zero n u d.1, ne_eqb (disagreements c (coded u)) count d.2) refl
-  as_tested (No Fewest) d =
+  as_tested (Err (Wrong Count)) d = rw (eq-eqb (length u) n d.0, tail_zero n u d.1, ne_eqb (disagreements c (coded u)) count d.2) refl
+  as_tested (Err (Wrong Fewest)) d =
       rw (
         eq-eqb (length u) n d.0,
         tail_zero n u d.1,
         eq-eqb (disagreements c (coded u)) count d.2,
         not_true (leb count (nearest_count c n)) (λ (e : leb count (nearest_count c n) ≡ true). d.3 (at_most_fewest c n count four short (leb-true count (nearest_count c n) e))),
       ) refl
-  as_tested (Refused why) d = absurd d
+  as_tested (Err (Refused why)) d = absurd d
 
   pub deserves_once : (m o : Mark) → Deserves c n u count m → Deserves c n u count o → m ≡ o
   deserves_once m o d e = as_tested m d ∙ sym (as_tested o e)
 
 -- ---- which of two tests refuses
 refusal_of : Told → Refusal
-refusal_of told.Done = refusal.Identity
-refusal_of (told.Refused x) = x
+refusal_of (Ok tt) = refusal.Identity
+refusal_of (Err x) = x
 
-which_refuses : (l b : Bool) (why : Refusal) → judged l b true ≡ told.Refused why
+which_refuses : (l b : Bool) (why : Refusal) → judged l b true ≡ Err why
     → ((l ≡ false) × (refusal.Length ≡ why)) ⊎ ((l ≡ true) × (b ≡ false) × (refusal.NotBits ≡ why))
 unfolding judged refusal_of
 which_refuses false b why e = inl (refl, ap refusal_of e)
@@ -98,15 +96,15 @@ which_refuses true true why e = let z : ◌≡◌ {A = ℕ} 0 1 = cc in let w : 
 
 -- ---- neither a yes nor a no is a refusal
 kind_of : Mark → ℕ
-kind_of Yes = 0
-kind_of (No what) = 1
-kind_of (Refused why) = 2
+kind_of (Ok done) = 0
+kind_of (Err (Wrong what)) = 1
+kind_of (Err (Refused why)) = 2
 
-pub yes_refused : {why : Refusal} → Yes ≡ Refused why → ⊥
+pub yes_refused : {why : Refusal} → ◌≡◌ {A = Mark} (Ok tt) (Err (Refused why)) → ⊥
 unfolding kind_of
 yes_refused e = let z : ◌≡◌ {A = ℕ} 0 2 = ap kind_of e in omega (arith, z)
 
-pub no_refused : {what : Fault} {why : Refusal} → No what ≡ Refused why → ⊥
+pub no_refused : {what : Fault} {why : Refusal} → ◌≡◌ {A = Mark} (Err (Wrong what)) (Err (Refused why)) → ⊥
 unfolding kind_of
 no_refused e = let z : ◌≡◌ {A = ℕ} 1 2 = ap kind_of e in omega (arith, z)
 
@@ -132,10 +130,10 @@ module _ (reads n : ℕ) (r u : List ℕ) (count : ℕ) where
     marked = λ l' s' b'. d;
   }
 
-  marks_one : (length r ≡ reads → ⊥) → Marks reads n r u count (Refused refusal.Length)
+  marks_one : (length r ≡ reads → ⊥) → Marks reads n r u count (Err (Refused refusal.Length))
   marks_one h = record { one = λ h'. refl; two = λ l h'. absurd (h l); marked = λ l s b. absurd (h l) }
 
-  marks_two : length r ≡ reads → (Symbols r × Bits u → ⊥) → Marks reads n r u count (Refused refusal.NotBits)
+  marks_two : length r ≡ reads → (Symbols r × Bits u → ⊥) → Marks reads n r u count (Err (Refused refusal.NotBits))
   marks_two l h = record { one = λ h'. absurd (h' l); two = λ l' h'. refl; marked = λ l' s b. absurd (h (s, b)) }
 
   -- ONE LAW for every channel: by the two tests, what is said is a refusal or what is deserved
@@ -159,16 +157,16 @@ module _ (reads n : ℕ) (r u : List ℕ) (count : ℕ) where
 
   -- ---- what `marking::mark_of` asks first
   module _ (t : Told) (is : t ≡ judged length_test bits_test true) where
-    pub done_read : t ≡ told.Done → (length r ≡ reads) × Symbols r × Bits u
+    pub done_read : t ≡ (Ok tt) → (length r ≡ reads) × Symbols r × Bits u
     done_read e =
         let held = done_held length_test bits_test true (sym is ∙ e) in
         let bits = bits_held held.bits in
         (eqb-true (length r) reads held.lengths, bits.0, bits.1)
 
-    pub marks_refused : (why : Refusal) → t ≡ told.Refused why → Marks reads n r u count (Refused why)
+    pub marks_refused : (why : Refusal) → t ≡ Err why → Marks reads n r u count (Err (Refused why))
     marks_refused why e =
-        ⊎_elim (λ x. subst (λ (y : Refusal). Marks reads n r u count (Refused y)) x.1 (marks_one (λ (l : length r ≡ reads). false_true (sym x.0 ∙ eq-eqb (length r) reads l))))
+        ⊎_elim (λ x. subst (λ (y : Refusal). Marks reads n r u count (Err (Refused y))) x.1 (marks_one (λ (l : length r ≡ reads). false_true (sym x.0 ∙ eq-eqb (length r) reads l))))
         (λ x.
-        subst (λ (y : Refusal). Marks reads n r u count (Refused y)) x.2
+        subst (λ (y : Refusal). Marks reads n r u count (Err (Refused y))) x.2
         (marks_two (eqb-true (length r) reads x.0) (λ (h : Symbols r × Bits u). false_true (sym x.1 ∙ held_bits h))))
         (which_refuses length_test bits_test why (sym is ∙ e))

@@ -7,8 +7,7 @@ use Rattle.convolution.specs.Pairs.{coded}
 use Rattle.convolution.proofs.laws.Pairs.{length_coded}
 use Rattle.parity.specs.Division.{access_g, sch_g}
 use Rattle.trellis.specs.Nearest.{Candidate, disagreements}
-use Rattle.answers.specs.Answers.{Answer}
-use Rattle.answers.specs.declared.Told.{Told}
+use Rattle.answers.specs.Answers.{Answer, Told}
 use Rattle.coder.specs.Blocks.{speech_u, speech_block, control_u, control_block, access_u, access_burst, sch_u, sch_burst}
 use Rattle.coder.specs.Entries.{speech_sent, control_sent, access_sent, sch_sent}
 use Rattle.coder.specs.Promises.{altered}

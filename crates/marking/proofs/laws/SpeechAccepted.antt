@@ -16,8 +16,8 @@ use Rattle.parity.proofs.laws.Division.{parity_only}
 use Rattle.parity.proofs.laws.Generators.{speech_number}
 use Rattle.trellis.specs.Nearest.{Candidate, Nearest}
 use Rattle.answers.specs.declared.Returned.{Returned}
-use Rattle.coder.specs.Blocks.{speech_p, speech_uat, speech_u}
-use Rattle.coder.specs.Received.{speech_dat, speech_received}
+use Rattle.coder.specs.Blocks.{speech_p, speech_u_at, speech_u}
+use Rattle.coder.specs.Received.{speech_d_at, speech_received}
 use Rattle.coder.specs.Says.{speech_d, speech_word}
 use Rattle.coder.proofs.laws.Order.{even_bits, odd_bits, parity_bits, tail_bits}
 use Rattle.coder.proofs.laws.Says.{speech_receives}
@@ -47,16 +47,16 @@ module _ (u rest : List ℕ) (cu : Candidate 189 u) where
   first_bits : Bits (take 50 (speech_d u))
   first_bits = bits_take 50 (speech_d u) (bits_d u cu.bits)
 
-  pub d_at : (j : ℕ) → j < 182 → get_or d j 0 ≡ speech_dat u j
+  pub d_at : (j : ℕ) → j < 182 → get_or d j 0 ≡ speech_d_at u j
   d_at j h =
-      let l : length (speech_d u) ≡ 182 = length_tab 182 (speech_dat u) in
-      get_or-append (speech_d u) rest 0 j (omega (arith, h, l)) ∙ at_tab 182 (speech_dat u) j h
+      let l : length (speech_d u) ≡ 182 = length_tab 182 (speech_d_at u) in
+      get_or-append (speech_d u) rest 0 j (omega (arith, h, l)) ∙ at_tab 182 (speech_d_at u) j h
 
   module _ (good : remainder speech_g (speech_word u) ≡ ones (length speech_g)) where
     parity_is : q ≡ speech_p d
     unfolding speech_p
     parity_is =
-        let l : length (speech_d u) ≡ 182 = length_tab 182 (speech_dat u) in
+        let l : length (speech_d u) ≡ 182 = length_tab 182 (speech_d_at u) in
         parity_only speech_g (take 50 (speech_d u)) first_bits q (q_long ∙ sym three_long) q_bits good
         ∙ ap (parity speech_g) (sym (take-append-le 50 (speech_d u) rest (omega (arith, l))))
 
@@ -91,7 +91,7 @@ module _ (u rest : List ℕ) (cu : Candidate 189 u) where
     pub speech_laid_out : u ≡ speech_u d
     unfolding speech_u
     speech_laid_out =
-        ext_get_or 0 u (speech_u d) (cu.long ∙ sym (length_tab 189 (speech_uat d (speech_p d)))) (λ i h. at i (omega (arith, h, cu.long)))
+        ext_get_or 0 u (speech_u d) (cu.long ∙ sym (length_tab 189 (speech_u_at d (speech_p d)))) (λ i h. at i (omega (arith, h, cu.long)))
 
 pub speech_accepted : SpeechAccepted
 unfolding counting

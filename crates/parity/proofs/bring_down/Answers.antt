@@ -11,18 +11,6 @@ use Rattle.parity.proofs.bring_down.Goals as goal
 narrow : (k : ℕ) → k ≤ 62 → 2 ^ k ≤ 4611686018427387904
 narrow k h = pow_mono h
 
-pub overflow_mul-brought : goal.overflow_mul-brought
-overflow_mul-brought c = let n = narrow c.args.degree c.requires.0 in omega (arith, n, c.requires.2)
-
-pub overflow_add-brought : goal.overflow_add-brought
-overflow_add-brought c = let n = narrow c.args.degree c.requires.0 in omega (arith, n, c.requires.2, c.requires.3)
-
-pub power-requires : goal.power-requires
-power-requires c = c.requires.0
-
-pub overflow_add-result : goal.overflow_add-result
-overflow_add-result c = let n = narrow c.args.degree c.requires.0 in omega (arith, n, c.power.ensures, c.requires.1)
-
 pub overflow_mul-result : goal.overflow_mul-result
 overflow_mul-result c =
     let a = c.args in

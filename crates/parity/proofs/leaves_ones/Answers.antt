@@ -1,4 +1,4 @@
--- `parity::leaves_ones` is right: it compares the number that division leaves, the colour taken off.
+-- `parity::leaves_ones` is right: it compares the number that division leaves, the colour taken off. Written out, so that the edit `identity_left_out` fails at this equation.
 use mathlib.Core.Path.{ap₂}
 use Prim.Native.Nat.{ℕ}
 use lib.Bits.{bit_xor}

@@ -10,4 +10,4 @@ returns c =
     let f₄ = c.fill-4 in
     let s = c.args in
     parts_twice s.a.now s.b.now s.flags s.e.now f₁.new.e f₂.new.e f₃.new.e f₄.new.e
-    c.requires.2 f₁.ensures f₂.ensures f₃.ensures f₄.ensures
+    c.requires f₁.ensures f₂.ensures f₃.ensures f₄.ensures

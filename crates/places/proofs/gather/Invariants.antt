@@ -1,4 +1,4 @@
-use Prim.Native.Nat.{◌+◌, ◌-◌, ◌*◌, ◌≤◌}
+use Prim.Native.Nat.{◌+◌, ◌*◌, ◌≤◌}
 use Rattle.bits.proofs.laws.Tab.{Filled}
 use Rattle.places.specs.laws.Table.{placed_in}
 use Rattle.places.proofs.gather.Given as goal
@@ -6,11 +6,5 @@ use Rattle.places.proofs.gather.Given as goal
 abbrev pub invariant-loop-x : goal.invariant-loop-x
 invariant-loop-x l = (l.x ≤ 8) × Filled (placed_in l.bursts) 456 (8 * l.row + l.x) l.c
 
-abbrev pub decreases-loop-x : goal.decreases-loop-x
-decreases-loop-x l = 8 - l.x
-
 abbrev pub invariant-loop-row : goal.invariant-loop-row
 invariant-loop-row l = (l.row ≤ 57) × Filled (placed_in l.bursts) 456 (8 * l.row) l.c
-
-abbrev pub decreases-loop-row : goal.decreases-loop-row
-decreases-loop-row l = 57 - l.row

@@ -1,7 +1,7 @@
 -- The two tables of places as the code has them, and what is filled and gathered by them.
-use Rattle.std.specs.Prelude.{List, [], ◌∷◌, ◌++◌, ℕ, ◌+◌, ◌-◌, ◌*◌, ◌/◌, ◌%◌, eqb, get_or, set}
+use Rattle.std.specs.Prelude.{List, [], ◌∷◌, ◌++◌, ℕ, ◌+◌, ◌*◌, ◌/◌, ◌%◌, eqb, get_or, set}
 use Rattle.bits.specs.Bits.{pick, tab}
-use Rattle.places.specs.Places.{e_at, flag_in, burst, four}
+use Rattle.places.specs.Places.{e_at, flag_in}
 
 -- bit 8 row + x at x of a row
 unfoldable pub places : List (List ℕ)

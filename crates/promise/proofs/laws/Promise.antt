@@ -1,5 +1,5 @@
 -- What a block bears it bears, and so the promise of demand 3 is kept; and the locality that carries it, by itself.
-use Rattle.std.specs.Prelude.{Bool, not, ◌≡◌, refl, ℕ, ◌+◌, ◌*◌, ◌/◌, ◌%◌, ◌≤◌, ◌<◌, ltb, eqb, length, drop}
+use Rattle.std.specs.Prelude.{Bool, not, ◌≡◌, refl, ℕ, ◌+◌, ◌*◌, ◌/◌, ◌%◌, ◌≤◌, ◌<◌, ltb, eqb, length, drop, Ok}
 use Rattle.std.proofs.Math.Bool.{true, false}
 use mathlib.Core.List.{List, [], ◌++◌}
 use Rattle.std.proofs.Common.{⊎_elim, ◌∙◌, subst, arith, lit≤, length-take-le, eqb-true}
@@ -26,12 +26,11 @@ use Rattle.parity.specs.Division.{control_g}
 use Rattle.convolution.specs.Pairs.{coded}
 use Rattle.trellis.specs.Nearest.{disagreements, Candidate, Found, longest}
 use Rattle.trellis.proofs.laws.Distance.{corrected}
-use Rattle.chart.specs.Answers.{of_taken}
+use Rattle.chart.specs.Answers.{Take, of_taken}
 use Rattle.kinds.specs.Kinds.{vote, by_kind, speech_of, facch_of, good_or_bad}
 use Rattle.kinds.proofs.laws.Kinds.{vote_few, vote_many, vote_even}
 use Rattle.kinds.proofs.laws.Says.{block_says}
 use Rattle.stream.specs.Sending.{is_facch, is_block, block_of, flag_of, fresh_sender}
-use Rattle.chart.specs.declared.Taken.{Taken}
 use Rattle.chart.specs.declared.Taken.TheVariants.{Speech, Facch}
 use Rattle.chart.specs.declared.Kind.{Kind}
 use Rattle.chart.specs.declared.Kind.TheVariants as kind
@@ -50,7 +49,7 @@ stream_nearest M few rx out here n h =
     let flag : ℕ → ℕ = λ (i : ℕ). get_or (block_flags rx n) i 0 in
     block_says (flags_that 1 rx n) (flags_that 0 rx n) n (block_bits rx n) (out (4 * n + 7))
     (λ v left. (of_taken (taken_at rx out (4 * n + 7)).result.told ≡ v) × ((taken_at rx out (4 * n + 7)).left ≡ left))
-    (λ t left e. (ap of_taken (met.result ∙ ap (λ (a : Answer Taken). a.result) e), met.left ∙ ap (λ (a : Answer Taken). a.left) e))
+    (λ t left e. (ap of_taken (met.result ∙ ap (λ (a : Answer Take). a.result) e), met.left ∙ ap (λ (a : Answer Take). a.left) e))
     (flags_saying 1 rx n) (flags_saying 0 rx n) (sayers_ones 1 flag) (sayers_ones 0 flag)
 
 pub bursts_made : BurstsMade
@@ -94,7 +93,7 @@ never_a_third M few rx rx' out here here' B same n h first last =
     let one = brings_block M few rx out here n h in
     let two = brings_block M few rx' out here' n h in
     let is = heard_stands rx rx' B n same first last (out (4 * n + 7)) in
-    (one.result ∙ ap (λ (x : Answer Taken). x.result) is ∙ sym two.result, one.left ∙ ap (λ (x : Answer Taken). x.left) is ∙ sym two.left)
+    (one.result ∙ ap (λ (x : Answer Take). x.result) is ∙ sym two.result, one.left ∙ ap (λ (x : Answer Take). x.left) is ∙ sym two.left)
 
 -- ---- how many flags are 1 and how many are 0, by how many are altered and how many are missing
 -- a flag that was p says p, or is altered, or is missing; and where it is altered it says the other
@@ -144,13 +143,13 @@ module _ (flag : ℕ → ℕ) (symbols : (i : ℕ) → flag i ≤ 2) where
   as_neither false h = vote_even (sayers 1 flag) (sayers 0 flag) (sym (even flag symbols false h))
 
 -- ---- what burst 4n+7 brings where block n comes back, and what that is in 01's values
-abbrev facch_back : List ℕ → ℕ → ℕ → List ℕ → Answer Taken
-facch_back d n count out = record { result = Facch (record { 0 = n }) count; left = d ++ drop 184 out }
+abbrev facch_back : List ℕ → ℕ → ℕ → List ℕ → Answer Take
+facch_back d n count out = record { result = Ok (Facch (record { 0 = n }) count); left = d ++ drop 184 out }
 
-abbrev speech_back : List ℕ → ℕ → ℕ → List ℕ → Answer Taken
-speech_back d n count c = record { result = Speech (record { 0 = n }) count; left = take 182 d ++ drop 378 c }
+abbrev speech_back : List ℕ → ℕ → ℕ → List ℕ → Answer Take
+speech_back d n count c = record { result = Ok (Speech (record { 0 = n }) count); left = take 182 d ++ drop 378 c }
 
-unfoldable comes_out : List ℕ → ℕ → ℕ → List ℕ → List ℕ → Answer Taken
+unfoldable comes_out : List ℕ → ℕ → ℕ → List ℕ → List ℕ → Answer Take
 comes_out d n count c out = pick (is_facch (length d)) (facch_back d n count out) (speech_back d n count c)
 
 module _ (d : List ℕ) (n k : ℕ) (c out : List ℕ) (a : Answer Received) where
@@ -364,7 +363,7 @@ brought ds lesson lent ll rx out here n h found flags =
     let said = brings_block M (omega (arith, lesson.most)) rx out here n (omega (arith, h)) in
     let is = comes ds lesson lent ll n h rx here.bits (out (4 * n + 7)) found flags (is_facch (length d)) refl in
     comes_back d n (bits_altered d (made lent ds) rx n) (given_bits (block_bits rx n)) (out (4 * n + 7)) (taken_at rx out (4 * n + 7))
-    (subst (λ (a : Answer Taken). Meets a (taken_at rx out (4 * n + 7)).result.told (taken_at rx out (4 * n + 7)).left) is said)
+    (subst (λ (a : Answer Take). Meets a (taken_at rx out (4 * n + 7)).result.told (taken_at rx out (4 * n + 7)).left) is said)
 
 -- ---- 02, M-102: what a block bears
 pub stream_bears : StreamBears

@@ -1,5 +1,5 @@
 -- What the sender makes: bit k of block n stands in burst 4n + (k mod 8) at its e-index, and its flags beside it. By induction over the blocks.
-use Rattle.std.specs.Prelude.{Bool, true, false, ◌≡◌, refl, ℕ, zero, suc, ◌+◌, ◌-◌, ◌*◌, ◌%◌, ◌≤◌, ◌<◌, ltb, eqb, length}
+use Rattle.std.specs.Prelude.{Bool, true, false, ◌≡◌, refl, ℕ, zero, suc, ◌+◌, ◌-◌, ◌*◌, ◌%◌, ◌≤◌, ◌<◌, ltb, eqb, length, Ok}
 use mathlib.Core.List.{List, [], ◌∷◌, ◌++◌}
 use Rattle.std.proofs.Common.{⊎_elim, sym, ◌∙◌, subst, length-append, lt-ltb, le-ltb, eqb-true, eq-eqb, ne_eqb}
 use Rattle.std.proofs.Math.Path.{ap}
@@ -10,7 +10,6 @@ use Rattle.bits.proofs.laws.Cases.{lt_or_le}
 use Rattle.bits.proofs.laws.Sum.{at_zeros}
 use Rattle.bits.proofs.laws.Tab.{at_left, at_right}
 use Rattle.answers.specs.Answers.{Answer, of_told}
-use Rattle.answers.specs.declared.Told.TheVariants.{Done}
 use Rattle.places.specs.Places.{e_at, place_at, bit_at, hl, hu, cell, four, flag_in, flags_of}
 use Rattle.places.proofs.laws.Four.{cell_bit, cell_hl, cell_hu, length_four, four_at, flag_hl, flag_hu}
 use Rattle.places.proofs.laws.Places.{every_bit}
@@ -51,11 +50,11 @@ beginning_fits (d ∷ ds) = flag_fits (is_facch (length d))
 
 -- ---- one call
 module _ (s : Sender) (lent : ℕ → List ℕ) (ll : Lent lent) where
-  last_call : Able s 0 → end_answer s (lent 0) ≡ record { result = record { told = Done; next = end_next s }; left = end_bursts s }
+  last_call : Able s 0 → end_answer s (lent 0) ≡ record { result = record { told = (Ok tt); next = end_next s }; left = end_bursts s }
   last_call a = ends_on s (lent 0) (record { writes = ll 0; unended = a.unended; some = omega (arith, a.some) })
 
   module _ (d : List ℕ) (ds : List (List ℕ)) (a : Able s (length (d ∷ ds))) (v : AllValid (d ∷ ds)) where
-    call : send_answer s d (lent 0) ≡ record { result = record { told = Done; next = sent_next s d }; left = sent_bursts s d }
+    call : send_answer s d (lent 0) ≡ record { result = record { told = (Ok tt); next = sent_next s d }; left = sent_bursts s d }
     call = sends_on s d (lent 0) (record { reads = (v 0 (omega arith)).kind; writes = ll 0; bits = (v 0 (omega arith)).bits; unended = a.unended; room = omega (arith, a.room) })
 
     able_next : Able (sent_next s d) (length ds)

@@ -1,7 +1,7 @@
 -- What the receiver holds before burst b is the last eight bursts that arrived; so the answer for block n is made of what stands at its places.
 use mathlib.Core.List.{List}
 use Rattle.std.proofs.Common.{⊎_elim, ◌∙◌, arith, lit<, lt-ltb, le-ltb}
-use Rattle.std.specs.Prelude.{◌≡◌, refl, ltb, drop}
+use Rattle.std.specs.Prelude.{◌≡◌, refl, ltb, drop, Ok, Option}
 use Rattle.std.proofs.Math.Path.{sym, ap, ap₂}
 use Prim.Native.Nat.{ℕ, zero, suc, ◌+◌, ◌*◌, ◌%◌, ◌≤◌, ◌<◌}
 use Rattle.std.proofs.Math.ListN.{length, get_or}
@@ -19,11 +19,11 @@ use Rattle.burst.specs.Ring.{held_bit, kept}
 use Rattle.burst.proofs.laws.Numbers.{ended_block, ended_none}
 use Rattle.places.proofs.laws.Places.{every_bit}
 use Rattle.burst.proofs.laws.Ring.{kept_long, kept_same, kept_other}
-use Rattle.burst.specs.declared.numbers.Ending.{Ending}
+use Rattle.burst.specs.declared.numbers.BlockNumber.{BlockNumber}
 use Rattle.kinds.specs.Kinds.{vote, by_kind}
 use Rattle.stream.specs.Receiving.{block_answer, at_ending, burst_answer, fresh_receiver, taken_next, take_answer}
 use Rattle.chart.specs.declared.Kind.{Kind}
-use Rattle.chart.specs.declared.Taken.{Taken}
+use Rattle.chart.specs.Answers.{Take}
 use Rattle.chart.specs.declared.Taken.TheVariants.{Waiting}
 use Rattle.stream.specs.declared.receiver.Received.{Received}
 use Rattle.stream.specs.declared.receiver.Receiver.{Receiver}
@@ -94,13 +94,13 @@ module _ (M : ℕ) (few : M ≤ 65536) (rx : List ℕ) (out : ℕ → List ℕ) 
   held_at : ℕ → List ℕ
   held_at b = kept (after rx out b).held b (burst_of rx b)
 
-  said : (b : ℕ) → b < M → (a : Answer Taken) → burst_answer (held_at b) b (out b) ≡ a → Answers rx out b a
+  said : (b : ℕ) → b < M → (a : Answer Take) → burst_answer (held_at b) b (out b) ≡ a → Answers rx out b a
   unfolding taken_at held_at
   said b h a e =
       let t = taken (after rx out b) b h (along b (omega (arith, h))) in
       record {
-        result = ap (λ (x : Answer Received). x.result.told) t ∙ ap (λ (x : Answer Taken). x.result) e;
-        left = ap (λ (x : Answer Received). x.left) t ∙ ap (λ (x : Answer Taken). x.left) e;
+        result = ap (λ (x : Answer Received). x.result.told) t ∙ ap (λ (x : Answer Take). x.result) e;
+        left = ap (λ (x : Answer Received). x.left) t ∙ ap (λ (x : Answer Take). x.left) e;
       }
 
   -- ---- the eight bursts of block n, when the last of them is taken
@@ -129,9 +129,9 @@ module _ (M : ℕ) (few : M ≤ 65536) (rx : List ℕ) (out : ℕ → List ℕ) 
     brings_block =
         let d : List ℕ = out (4 * n + 7) in
         said (4 * n + 7) h (answer_for rx n d)
-        (ap (λ (x : Ending). at_ending x held d) (ended_block n) ∙ ap₂ (λ (k : Kind) (c : List ℕ). by_kind k n c d) (ap₂ vote (flags_are 1) (flags_are 0)) bits_are)
+        (ap (λ (x : Option BlockNumber). at_ending x held d) (ended_block n) ∙ ap₂ (λ (k : Kind) (c : List ℕ). by_kind k n c d) (ap₂ vote (flags_are 1) (flags_are 0)) bits_are)
 
   -- ---- and every other burst
-  pub brings_nothing : (b : ℕ) → b < M → ((n : ℕ) → b ≡ 4 * n + 7 → ⊥) → Answers rx out b (record { result = Waiting; left = out b })
+  pub brings_nothing : (b : ℕ) → b < M → ((n : ℕ) → b ≡ 4 * n + 7 → ⊥) → Answers rx out b (record { result = Ok Waiting; left = out b })
   unfolding burst_answer at_ending
-  brings_nothing b h other = said b h (record { result = Waiting; left = out b }) (ap (λ (x : Ending). at_ending x (held_at b) (out b)) (ended_none b other))
+  brings_nothing b h other = said b h (record { result = Ok Waiting; left = out b }) (ap (λ (x : Option BlockNumber). at_ending x (held_at b) (out b)) (ended_none b other))

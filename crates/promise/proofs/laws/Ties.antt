@@ -1,5 +1,5 @@
 -- What 02, M-101 buys is so: with as many flags altered as not the vote is open, and the block is heard as FACCH, then as speech.
-use Rattle.std.specs.Prelude.{Bool, true, false, List, [], ◌++◌, ◌≡◌, refl, ℕ, ◌+◌, ◌*◌, ◌≤◌, ◌<◌, get_or, take}
+use Rattle.std.specs.Prelude.{Bool, true, false, List, [], ◌++◌, ◌≡◌, refl, ℕ, ◌+◌, ◌*◌, ◌≤◌, ◌<◌, get_or, take, Ok}
 use Rattle.std.proofs.Common.{⊎_elim, ap, ◌∙◌, arith, eq-eqb, ne_eqb}
 use Rattle.std.proofs.Math.Path.{subst}
 use Rattle.std.proofs.Math.ListN.{length, drop}
@@ -9,10 +9,9 @@ use Rattle.bits.proofs.laws.Cases.{lt_or_le}
 use Rattle.coder.specs.Received.{Hearing, block_heard, speech_heard}
 use Rattle.coder.proofs.laws.Says.{control_decodes}
 use Rattle.parity.specs.Division.{control_g}
-use Rattle.chart.specs.Answers.{of_taken}
+use Rattle.chart.specs.Answers.{Take, of_taken}
 use Rattle.chart.specs.declared.Kind.{Kind}
 use Rattle.chart.specs.declared.Kind.TheVariants as kind
-use Rattle.chart.specs.declared.Taken.{Taken}
 use Rattle.chart.specs.declared.Taken.TheVariants.{Speech, Facch}
 use Rattle.kinds.specs.Kinds.{tied, by_kind}
 use Rattle.stream.specs.Sending.{is_facch}
@@ -45,17 +44,17 @@ module _ (ds : List (List ℕ)) (lesson : Lesson ds) (lent : ℕ → List ℕ) (
     by_rule : Meets (tied n (block_heard control_g 0 184 c) (speech_heard c) before) (taken_at rx out (4 * n + 7)).result.told (taken_at rx out (4 * n + 7)).left
     unfolding answer_for by_kind
     by_rule =
-        subst (λ (a : Answer Taken). Meets a (taken_at rx out (4 * n + 7)).result.told (taken_at rx out (4 * n + 7)).left)
+        subst (λ (a : Answer Take). Meets a (taken_at rx out (4 * n + 7)).result.told (taken_at rx out (4 * n + 7)).left)
         (ap (λ (x : Kind). by_kind x n c before) (vote_ties ds lesson lent ll n h rx here.bits four))
         (brings_block (4 * length ds + 4) (omega (arith, lesson.most)) rx out here n (omega (arith, h)))
 
-    brings : (a : Answer Taken) → tied n (block_heard control_g 0 184 c) (speech_heard c) before ≡ a
+    brings : (a : Answer Take) → tied n (block_heard control_g 0 184 c) (speech_heard c) before ≡ a
         → (of_taken (taken_at rx out (4 * n + 7)).result.told ≡ of_taken a.result) × ((taken_at rx out (4 * n + 7)).left ≡ a.left)
-    brings a e = (ap of_taken (by_rule.result ∙ ap (λ (x : Answer Taken). x.result) e), by_rule.left ∙ ap (λ (x : Answer Taken). x.left) e)
+    brings a e = (ap of_taken (by_rule.result ∙ ap (λ (x : Answer Take). x.result) e), by_rule.left ∙ ap (λ (x : Answer Take). x.left) e)
 
     as_facch : (control : Hearing) → block_heard control_g 0 184 c ≡ control → control.good ≡ true → Brings (taken_at rx out (4 * n + 7)) kind.Facch n control.count (control.bits ++ drop 184 before)
     as_facch control e good =
-        let so = brings (record { result = Facch (record { 0 = n }) control.count; left = control.bits ++ drop 184 before })
+        let so = brings (record { result = Ok (Facch (record { 0 = n }) control.count); left = control.bits ++ drop 184 before })
         (ap (λ (x : Hearing). tied n x (speech_heard c) before) e ∙ rule_facch n control (speech_heard c) before good ∙ facch_good n control before good) in
         record { told = so.0; left = so.1 }
 
@@ -63,7 +62,7 @@ module _ (ds : List (List ℕ)) (lesson : Lesson ds) (lent : ℕ → List ℕ) (
         → Brings (taken_at rx out (4 * n + 7)) kind.Speech n speech.count speech.bits
     as_speech bad speech e good =
         let control : Hearing = block_heard control_g 0 184 c in
-        let so = brings (record { result = Speech (record { 0 = n }) speech.count; left = speech.bits })
+        let so = brings (record { result = Ok (Speech (record { 0 = n }) speech.count); left = speech.bits })
         (ap (λ (x : Hearing). tied n control x before) e ∙ rule_speech n control speech before bad good ∙ speech_good n speech before good) in
         record { told = so.0; left = so.1 }
 

@@ -1,6 +1,6 @@
 -- The totals that a receiver carries are those of all its answers: each call adds what its answer says, and no number comes near its limit, since only
 -- every fourth burst brings a block and there are 65,536 bursts.
-use Rattle.std.specs.Prelude.{Bool, List, [], ◌∷◌, ◌++◌, ◌≡◌, eqb, leb}
+use Rattle.std.specs.Prelude.{Bool, List, [], ◌∷◌, ◌++◌, ◌≡◌, eqb, leb, Ok, Err, Option, Some, None}
 use Rattle.std.proofs.Math.Bool.{true, false}
 use Rattle.std.proofs.Math.Path.{refl, sym, ap, subst}
 use Rattle.std.proofs.Common.{ap₂, ◌∙◌, arith, eqb-true, leb-true, leb-false}
@@ -8,29 +8,26 @@ use Prim.Native.Nat.{ℕ, zero, suc, ◌+◌, ◌-◌, ◌*◌, ◌/◌, ◌%◌
 use Rattle.std.proofs.Math.Dec.{lit≤}
 use Rattle.std.proofs.Math.ListN.{drop}
 use Rattle.std.proofs.lemmas.Bool.{eqb-false}
-use Rattle.answers.specs.Answers.{Answer}
+use Rattle.answers.specs.Answers.{Answer, Told}
 use Rattle.bits.specs.Bits.{pick}
 use Rattle.answers.specs.Calls.{handed_back, Happened}
 use Rattle.answers.specs.declared.Refusal.{Refusal}
-use Rattle.answers.specs.declared.Told.{Told}
-use Rattle.answers.specs.declared.Told.TheVariants as told
 use Rattle.parity.specs.Division.{control_g}
 use Rattle.burst.specs.Numbers.{ended}
 use Rattle.burst.specs.Ring.{kept}
-use Rattle.burst.specs.declared.numbers.Ending.{Ending}
-use Rattle.burst.specs.declared.numbers.Ending.TheVariants.{Block, Nothing}
+use Rattle.burst.specs.declared.numbers.BlockNumber.{BlockNumber}
 use Rattle.burst.proofs.laws.Numbers.{ended_none}
 use Rattle.burst.specs.Held.{held_flags, held_block}
 use Rattle.coder.specs.Received.{Hearing, block_heard, speech_heard}
 use Rattle.coder.proofs.laws.Counts.{control_most, speech_most}
-use Rattle.chart.specs.Answers.{of_taken}
+use Rattle.chart.specs.Answers.{Take, of_taken}
 use Rattle.chart.specs.Says.{said, together, totals_of}
 use Rattle.chart.specs.Totals.{four, adds, more, counted}
 use Rattle.chart.proofs.laws.Totals.{adds_says}
 use Rattle.chart.specs.declared.Kind.{Kind}
 use Rattle.chart.specs.declared.Kind.TheVariants as kind
-use Rattle.chart.specs.declared.Taken.{Taken}
 use Rattle.chart.specs.declared.Taken.TheVariants as taken
+use Rattle.chart.specs.declared.Untaken.TheVariants as untaken
 use Rattle.chart.specs.declared.totals.Totals.{Totals}
 use Rattle.stream.specs.Calls.{TakeCall, receiver_answer}
 use Rattle.kinds.specs.Kinds.{vote, good_or_bad, speech_of, facch_of, tied, by_kind}
@@ -47,7 +44,7 @@ record Adds (most : ℕ) (m : Totals) : Type 0 where
   blocks : m.speech + m.facch + m.refused ≤ most
   counts : m.counts ≤ 456 * (m.speech + m.facch)
 
-good_or_bad_lem : (b : Bool) (t u : Taken) (x y : List ℕ) → Adds 1 (adds t) → Adds 1 (adds u) → Adds 1 (adds (good_or_bad b t x u y).result)
+good_or_bad_lem : (b : Bool) (t u : Take) (x y : List ℕ) → Adds 1 (adds t) → Adds 1 (adds u) → Adds 1 (adds (good_or_bad b t x u y).result)
 unfolding good_or_bad
 good_or_bad_lem true t u x y p q = p
 good_or_bad_lem false t u x y p q = q
@@ -62,16 +59,16 @@ module _ (n : ℕ) (c d : List ℕ) where
   of_speech : Adds 1 (adds (speech_of n speech d).result)
   unfolding speech_of adds
   of_speech =
-      good_or_bad_lem speech.good (taken.Speech (record { 0 = n }) speech.count) (taken.Bad (record { 0 = n }) speech.count) speech.bits d
+      good_or_bad_lem speech.good (Ok (taken.Speech (record { 0 = n }) speech.count)) (Err (untaken.Bad (record { 0 = n }) speech.count)) speech.bits d
       (record { blocks = lit≤ tt; counts = omega (arith, speech_most c) }) (record { blocks = lit≤ tt; counts = lit≤ tt })
 
   of_facch : Adds 1 (adds (facch_of n control d).result)
   unfolding facch_of adds
   of_facch =
-      good_or_bad_lem control.good (taken.Facch (record { 0 = n }) control.count) (taken.Bad (record { 0 = n }) control.count) (control.bits ++ drop 184 d) d
+      good_or_bad_lem control.good (Ok (taken.Facch (record { 0 = n }) control.count)) (Err (untaken.Bad (record { 0 = n }) control.count)) (control.bits ++ drop 184 d) d
       (record { blocks = lit≤ tt; counts = omega (arith, control_most c) }) (record { blocks = lit≤ tt; counts = lit≤ tt })
 
-  of_tie : (b b' : Bool) → Adds 1 (adds (pick b (facch_of n control d) (pick b' (speech_of n speech d) (record { result = taken.Tie (record { 0 = n }); left = d }))).result)
+  of_tie : (b b' : Bool) → Adds 1 (adds (pick b (facch_of n control d) (pick b' (speech_of n speech d) (record { result = Err (untaken.Tie (record { 0 = n })); left = d }))).result)
   unfolding adds
   of_tie true b' = of_facch
   of_tie false true = of_speech
@@ -84,14 +81,14 @@ module _ (n : ℕ) (c d : List ℕ) where
   of_kind kind.Neither = of_tie control.good speech.good
 
 -- what burst b brings: one block where b is 4n+7, else nothing
-of_ending : (x : Ending) (held d : List ℕ) → Adds 1 (adds (at_ending x held d).result)
+of_ending : (x : Option BlockNumber) (held d : List ℕ) → Adds 1 (adds (at_ending x held d).result)
 unfolding at_ending block_answer adds
-of_ending (Block n) held d = of_kind n.0 (held_block held n.0) d (vote (held_flags 1 held n.0) (held_flags 0 held n.0))
-of_ending Nothing held d = record { blocks = lit≤ tt; counts = lit≤ tt }
+of_ending (Some n) held d = of_kind n.0 (held_block held n.0) d (vote (held_flags 1 held n.0) (held_flags 0 held n.0))
+of_ending None held d = record { blocks = lit≤ tt; counts = lit≤ tt }
 
 no_block : (b : ℕ) → ((n : ℕ) → b ≡ 4 * n + 7 → ⊥) → (held d : List ℕ) → adds (burst_answer held b d).result ≡ four 0 0 0 0
 unfolding burst_answer at_ending adds
-no_block b other held d = ap (λ (x : Ending). adds (at_ending x held d).result) (ended_none b other)
+no_block b other held d = ap (λ (x : Option BlockNumber). adds (at_ending x held d).result) (ended_none b other)
 
 -- so many blocks are brought before burst b
 abbrev before : ℕ → ℕ
@@ -145,12 +142,12 @@ record Step (s : Receiver) (r : Received) : Type 0 where
   far : Far r.next.next.0 r.next.totals
 
 module _ (s : Receiver) (b : ℕ) (e d : List ℕ) (far : Far s.next.0 s.totals) where
-  done : Takeable s b e d → Step s (after_taking told.Done s e d).result
+  done : Takeable s b e d → Step s (after_taking (Ok tt) s e d).result
   unfolding after_taking taken_next counted together
   done able =
       let n : ℕ = s.next.0 in
       let x : Totals = s.totals in
-      let t : Taken = (burst_answer (kept s.held n e) n d).result in
+      let t : Take = (burst_answer (kept s.held n e) n d).result in
       let m : Totals = adds t in
       let a = of_burst (kept s.held n e) d n in
       let few : x.speech + x.facch + x.refused + (m.speech + m.facch + m.refused) ≤ before (n + 1) = omega (arith, far.blocks, a.blocks) in
@@ -162,7 +159,7 @@ module _ (s : Receiver) (b : ℕ) (e d : List ℕ) (far : Far s.next.0 s.totals)
         far = subst (Far (n + 1)) (sym sums) (record { within = omega (arith, able.room); blocks = omega (arith, few); counts = least });
       }
 
-  refused : (r : Refusal) → Step s (after_taking (told.Refused r) s e d).result
+  refused : (r : Refusal) → Step s (after_taking (Err r) s e d).result
   unfolding after_taking said
   refused r = record { adds_up = sym (none_after s.totals); far = far }
 
@@ -171,8 +168,8 @@ module _ (s : Receiver) (b : ℕ) (e d : List ℕ) (far : Far s.next.0 s.totals)
   step = by_told (take_told s b e d) refl
     where
       by_told : (t : Told) → take_told s b e d ≡ t → Step s (after_taking t s e d).result
-      by_told told.Done h = done (take_able s b e d (take_told s b e d) refl h)
-      by_told (told.Refused r) h = refused r
+      by_told (Ok tt) h = done (take_able s b e d (take_told s b e d) refl h)
+      by_told (Err r) h = refused r
 
 -- ---- bursts in order from a fresh receiver: each adds what it is answered
 fresh_far : Far fresh_receiver.next.0 fresh_receiver.totals

@@ -1,19 +1,17 @@
 -- 9 is given in no other case than Says has (02, M-101): by what is judged, by what the burst ends, and by the block.
-use Rattle.std.specs.Prelude.{Bool, true, false, ◌≡◌, refl, eqb, leb, length}
+use Rattle.std.specs.Prelude.{Bool, true, false, ◌≡◌, refl, eqb, leb, length, Ok, Err, Option}
 use mathlib.Core.List.{List}
 use Rattle.std.proofs.Math.Path.{sym, ap, subst₂}
 use Rattle.std.proofs.Common.{◌∙◌, arith, eqb-true, leb-true, leb-false}
 use Prim.Native.Nat.{ℕ, ◌+◌, ◌-◌, ◌*◌, ◌/◌, ◌%◌}
 use Rattle.bits.specs.Bits.{both, none_over}
 use Rattle.std.proofs.lemmas.Bool.{eqb-false}
-use Rattle.answers.specs.Answers.{Answer, number_of, or_none, of_told}
+use Rattle.answers.specs.Answers.{Answer, number_of, or_none, of_told, Told}
 use Rattle.answers.specs.declared.Refusal.{Refusal}
-use Rattle.answers.specs.declared.Told.{Told}
-use Rattle.answers.specs.declared.Told.TheVariants as told
 use Rattle.burst.specs.Held.{held_flags, held_block}
 use Rattle.burst.specs.Numbers.{ended}
 use Rattle.burst.specs.Ring.{kept}
-use Rattle.burst.specs.declared.numbers.Ending.{Ending}
+use Rattle.burst.specs.declared.numbers.BlockNumber.{BlockNumber}
 use Rattle.burst.proofs.laws.Held.{held_ones}
 use Rattle.burst.proofs.laws.Numbers.{ended_block, ended_none}
 use Rattle.kinds.specs.Kinds.{vote, by_kind}
@@ -29,7 +27,7 @@ use Rattle.stream.proofs.laws.Receiving.{take_able, takes_on}
 abbrev of_told_lem : Told → ℕ
 of_told_lem t = or_none (of_told t).number
 
-judged_other : (l b f t : Bool) (r : Refusal) → take_judged l b f t ≡ told.Refused r → number_of r ≡ 9 → ⊥
+judged_other : (l b f t : Bool) (r : Refusal) → take_judged l b f t ≡ Err r → number_of r ≡ 9 → ⊥
 unfolding take_judged
 judged_other false b f t r e z = omega (arith, ap of_told_lem e, z)
 judged_other true false f t r e z = omega (arith, ap of_told_lem e, z)
@@ -47,7 +45,7 @@ module _ (s : Receiver) (b : ℕ) (e d : List ℕ) (takes : Takeable s b e d) wh
   ends_block n is z =
       let c : List ℕ = held_block held n in
       let brought : given (at_ending (ended b) held d).result ≡ given (by_kind (vote (held_flags 1 held n) (held_flags 0 held n)) n c d).result =
-      ap (λ (x : Ending). given (at_ending x held d).result) (ap ended is ∙ ended_block n) in
+      ap (λ (x : Option BlockNumber). given (at_ending x held d).result) (ap ended is ∙ ended_block n) in
       let bad = of_flags n c d (held_flags 1 held n) (held_flags 0 held n) (sym brought ∙ z) in
       record {
         takes = takes;
@@ -59,7 +57,7 @@ module _ (s : Receiver) (b : ℕ) (e d : List ℕ) (takes : Takeable s b e d) wh
   ends_none : ((n : ℕ) → b ≡ 4 * n + 7 → ⊥) → given (burst_answer held b d).result ≡ 9 → Nine s b e d
   unfolding burst_answer at_ending
   ends_none other z =
-      let w : given (at_ending (ended b) held d).result ≡ 0 = ap (λ (x : Ending). given (at_ending x held d).result) (ended_none b other) in
+      let w : given (at_ending (ended b) held d).result ≡ 0 = ap (λ (x : Option BlockNumber). given (at_ending x held d).result) (ended_none b other) in
       absurd (omega (arith, w, z))
 
   by_burst : given (burst_answer held b d).result ≡ 9 → Nine s b e d
@@ -72,19 +70,19 @@ module _ (s : Receiver) (b : ℕ) (e d : List ℕ) (takes : Takeable s b e d) wh
 
 -- ---- any call
 module _ (s : Receiver) (b : ℕ) (e d : List ℕ) (nine : given (take_answer s b e d).result.told ≡ 9) where
-  refused : (r : Refusal) → take_told s b e d ≡ told.Refused r → number_of r ≡ 9
+  refused : (r : Refusal) → take_told s b e d ≡ Err r → number_of r ≡ 9
   unfolding take_answer after_taking
   refused r h = sym (ap (λ (t : Told). given (after_taking t s e d).result.told) h) ∙ nine
 
-  not_refused : (r : Refusal) → take_told s b e d ≡ told.Refused r → ⊥
+  not_refused : (r : Refusal) → take_told s b e d ≡ Err r → ⊥
   unfolding take_told
   not_refused r h = judged_other (both (eqb (length e) 116) (eqb (length d) 260)) (none_over 2 e) (leb 65536 s.next.0) (eqb b s.next.0) r h (refused r h)
 
   by_told : (t : Told) → take_told s b e d ≡ t → Nine s b e d
-  by_told told.Done h =
+  by_told (Ok tt) h =
       let takes = take_able s b e d (take_told s b e d) refl h in
       by_burst s b e d takes (sym (ap (λ (x : Answer Received). given x.result.told) (takes_on s b e d takes)) ∙ nine)
-  by_told (told.Refused r) h = absurd (not_refused r h)
+  by_told (Err r) h = absurd (not_refused r h)
 
 pub nine_only : NineOnly
 nine_only s b e d z = by_told s b e d (ap or_none z) (take_told s b e d) refl

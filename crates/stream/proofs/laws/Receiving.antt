@@ -1,28 +1,26 @@
 -- What the receiver's functions need: the block that is gathered, and how a take ends.
-use Rattle.std.specs.Prelude.{Bool, true, false, List, ◌≡◌, ℕ, ◌+◌, ◌*◌, ◌%◌, eqb, leb, length, get_or}
+use Rattle.std.specs.Prelude.{Bool, true, false, List, ◌≡◌, ℕ, ◌+◌, ◌*◌, ◌%◌, eqb, leb, length, get_or, Option, Ok, Err}
 use Rattle.std.proofs.Math.Path.{refl, ap}
-use Rattle.std.proofs.Common.{sym, ap₂, ◌∙◌, subst, arith, eqb-true, leb-false, eq-eqb}
+use Rattle.std.proofs.Common.{sym, ap₂, ◌∙◌, subst, eqb-true, leb-false, eq-eqb}
 use Rattle.std.proofs.lemmas.Bool.{lt-leb}
 use Rattle.bits.specs.Bits.{Symbols, both, none_over}
 use Rattle.bits.proofs.laws.Cases.{both_first, both_second}
 use Rattle.bits.proofs.laws.Check.{none_over_lem, over_none}
 use Rattle.bits.proofs.laws.Missing.{symbol_le}
 use Rattle.bits.proofs.laws.Tab.{over_tab, length_tab}
-use Rattle.answers.specs.Answers.{Answer, Meets}
+use Rattle.answers.specs.Answers.{Answer, Meets, Told}
 use Rattle.answers.specs.declared.Refusal.{Refusal}
-use Rattle.answers.specs.declared.Told.{Told}
-use Rattle.answers.specs.declared.Told.TheVariants as told
 use Rattle.burst.specs.Held.{held_block_at, held_block, held_flags}
 use Rattle.burst.specs.Numbers.{first_burst, ended}
+use Rattle.burst.specs.declared.numbers.BlockNumber.{BlockNumber}
 use Rattle.burst.specs.Ring.{held_bit, kept}
-use Rattle.burst.specs.declared.numbers.Ending.{Ending}
 use Rattle.stream.specs.Says.{Takeable}
-use Rattle.kinds.specs.Kinds.{vote, by_kind}
 use Rattle.stream.specs.Receiving.{take_judged, take_told, block_answer, at_ending, burst_answer, taken_next, after_taking, take_answer}
 use Rattle.places.specs.Places.{e_at}
+use Rattle.kinds.specs.Kinds.{vote, by_kind}
 use Rattle.chart.specs.declared.Kind.{Kind}
-use Rattle.chart.specs.declared.Taken.{Taken}
-use Rattle.chart.specs.declared.Taken.TheVariants as taken
+use Rattle.chart.specs.Answers.{Take}
+use Rattle.chart.specs.declared.Untaken.TheVariants as untaken
 use Rattle.stream.specs.declared.receiver.Receiver.{Receiver}
 
 -- ---- the block that is gathered
@@ -39,13 +37,13 @@ held_given held d c n e ld = (ap length e ∙ held_long held n, subst Symbols (s
 
 -- ---- the block that is held, and the block that the burst ends
 pub block_brought : (held d c : List ℕ) (n ones zeros : ℕ) → c ≡ held_block held n → ones ≡ held_flags 1 held n → zeros ≡ held_flags 0 held n
-    → (r : Taken) (after : List ℕ) → Meets (by_kind (vote ones zeros) n c d) r after → Meets (block_answer held n d) r after
+    → (r : Take) (after : List ℕ) → Meets (by_kind (vote ones zeros) n c d) r after → Meets (block_answer held n d) r after
 unfolding block_answer
-block_brought held d c n ones zeros ec ef es r after = subst (λ (a : Answer Taken). Meets a r after) (ap₂ (λ (k : Kind) (x : List ℕ). by_kind k n x d) (ap₂ vote ef es) ec)
+block_brought held d c n ones zeros ec ef es r after = subst (λ (a : Answer Take). Meets a r after) (ap₂ (λ (k : Kind) (x : List ℕ). by_kind k n x d) (ap₂ vote ef es) ec)
 
-pub at_ending_lem : (held d : List ℕ) (b : ℕ) (x y : Ending) → x ≡ y → x ≡ ended b → at_ending y held d ≡ burst_answer held b d
+pub at_ending_lem : (held d : List ℕ) (b : ℕ) (x y : Option BlockNumber) → x ≡ y → x ≡ ended b → at_ending y held d ≡ burst_answer held b d
 unfolding burst_answer
-at_ending_lem held d b x y e ex = ap (λ (z : Ending). at_ending z held d) (sym e ∙ ex)
+at_ending_lem held d b x y e ex = ap (λ (z : Option BlockNumber). at_ending z held d) (sym e ∙ ex)
 
 -- ---- done means that every test of `take_judged` held
 pub record TakeHeld (l b f t : Bool) : Type 0 where
@@ -54,15 +52,15 @@ pub record TakeHeld (l b f t : Bool) : Type 0 where
   pub room : f ≡ false
   pub turn : t ≡ true
 
-done_held : (l b f t : Bool) → take_judged l b f t ≡ told.Done → TakeHeld l b f t
+done_held : (l b f t : Bool) → take_judged l b f t ≡ (Ok tt) → TakeHeld l b f t
 unfolding take_judged
 done_held true true false true e = record { lengths = refl; bits = refl; room = refl; turn = refl }
-done_held true true false false e = let z : ◌≡◌ {A = ℕ} 0 1 = cc in let w : ⊥ = omega arith in absurd w
-done_held true true true t e = let z : ◌≡◌ {A = ℕ} 0 1 = cc in let w : ⊥ = omega arith in absurd w
-done_held true false f t e = let z : ◌≡◌ {A = ℕ} 0 1 = cc in let w : ⊥ = omega arith in absurd w
-done_held false b f t e = let z : ◌≡◌ {A = ℕ} 0 1 = cc in let w : ⊥ = omega arith in absurd w
+done_held true true false false e = absurd (cc)
+done_held true true true t e = absurd (cc)
+done_held true false f t e = absurd (cc)
+done_held false b f t e = absurd (cc)
 
-pub take_able : (s : Receiver) (b : ℕ) (e d : List ℕ) (r : Told) → r ≡ take_told s b e d → r ≡ told.Done → Takeable s b e d
+pub take_able : (s : Receiver) (b : ℕ) (e d : List ℕ) (r : Told) → r ≡ take_told s b e d → r ≡ (Ok tt) → Takeable s b e d
 unfolding take_told
 take_able s b e d r h f =
     let l : Bool = both (eqb (length e) 116) (eqb (length d) 260) in
@@ -77,12 +75,12 @@ take_able s b e d r h f =
 
 -- ---- the two ways in which a take ends
 module _ (t : Told) (s : Receiver) (e d : List ℕ) (r : Told) (h : r ≡ t) where
-  pub done_taking : (said : Taken) (after : List ℕ) (n : Receiver) → r ≡ told.Done → Meets (burst_answer (kept s.held s.next.0 e) s.next.0 d) said after → n ≡ taken_next s e said
+  pub done_taking : (said : Take) (after : List ℕ) (n : Receiver) → r ≡ (Ok tt) → Meets (burst_answer (kept s.held s.next.0 e) s.next.0 d) said after → n ≡ taken_next s e said
       → Meets (after_taking t s e d) (record { told = said; next = n }) after
   unfolding after_taking
-  done_taking said after n f m en = rw (← h, f) (record { result = ap (λ (y : Receiver). record { told = said; next = y }) en ∙ ap (λ (x : Taken). record { told = x; next = taken_next s e x }) m.result; left = m.left })
+  done_taking said after n f m en = rw (← h, f) (record { result = ap (λ (y : Receiver). record { told = said; next = y }) en ∙ ap (λ (x : Take). record { told = x; next = taken_next s e x }) m.result; left = m.left })
 
-  pub refused_taking : (x : Refusal) → r ≡ told.Refused x → Meets (after_taking t s e d) (record { told = taken.Refused x; next = s }) d
+  pub refused_taking : (x : Refusal) → r ≡ Err x → Meets (after_taking t s e d) (record { told = Err (untaken.Refused x); next = s }) d
   unfolding after_taking
   refused_taking x f = rw (← h, f) (record { result = refl; left = refl })
 

@@ -1,6 +1,5 @@
 -- The rows of the two tables as the code has them, in rows of five.
 use Rattle.std.specs.Prelude.{List, [], ◌∷◌, ℕ}
-use Rattle.order.specs.Order.{entries}
 
 -- ---- the tables of the code, in rows of five, have the same entries
 unfoldable pub important_rows : List (List ℕ)

@@ -7,6 +7,8 @@ use Rattle.std.proofs.Math.Dec.{eqb}
 use Rattle.bits.specs.Bits.{NoneOver}
 use Rattle.bits.proofs.laws.Cases.{both_first, both_second, not_true}
 use Rattle.bits.proofs.laws.Tab.{all_at}
+use Rattle.std.specs.List.{list_all}
+use Rattle.text.proofs.laws.Same.{and_both}
 use Rattle.text.specs.Text.{digit_of}
 use Rattle.text.specs.Hexadecimal.{hex_character, hex_of, hex_digit, all_digits, is_hex, octets_of}
 
@@ -40,6 +42,12 @@ all_digits_lem : (w : List ℕ) → ((k : ℕ) → k < length w → hex_digit (g
 unfolding all_digits
 all_digits_lem [] each = refl
 all_digits_lem (c ∷ w) each = rw (le-leb (hex_digit c) 15 (each 0 (omega arith))) (all_digits_lem w (λ k l. each (suc k) (omega (arith, l))))
+
+-- `all` of the digits is `all_digits`
+pub all_pass : (w : List ℕ) → list_all (λ c. leb (hex_digit c) 15) w ≡ all_digits w
+unfolding all_digits
+all_pass [] = refl
+all_pass (c ∷ w) = and_both (leb (hex_digit c) 15) (all_pass w)
 
 module _ (w : List ℕ) where
   pub hex_even : is_hex w ≡ true → length w % 2 ≡ 0

@@ -1,12 +1,13 @@
 -- A word that is put into a buffer: byte by byte, and after another word.
-use mathlib.Core.List.{List, [], ◌∷◌, ◌++◌, append_assoc, append-nil}
-use Rattle.std.specs.Prelude.{◌≡◌, refl, ℕ, ◌+◌, ◌*◌, ◌≤◌, ◌<◌, get_or, set}
+use mathlib.Core.List.{List, [], ◌∷◌, ◌++◌, map, append_assoc, append-nil}
+use Rattle.std.specs.Prelude.{◌≡◌, refl, ℕ, ◌+◌, ◌-◌, ◌*◌, ◌≤◌, ◌<◌, get_or, set}
 use Rattle.std.proofs.Common.{sym, ap, ◌∙◌, subst, add-one, length-append, length-set, drop_of_length-le, take_all, take_at, drop_at, drop-drop, length-take-le}
 use Rattle.std.proofs.Math.Path.{ap₂}
 use native.Mathlib.Omega.{arith}
-use Rattle.std.proofs.Math.ListN.{length, take, drop}
+use Rattle.std.proofs.Math.ListN.{length, take, drop, length-map, get_or-map}
 use Rattle.std.proofs.Math.Seq.{paste, paste-zero, paste-suc}
 use Rattle.std.proofs.lemmas.List.{set_split}
+use borrow.Rule.Slice.PartMut.{put_mid, Post-is}
 use Rattle.text.specs.Text.{put_at, refused_as}
 
 -- ---- a loop that puts the bytes of the word in turn: after i turns the first i of them stand in `out`, which was `before`
@@ -44,10 +45,28 @@ module _ (before : List ℕ) (n : ℕ) (word : List ℕ) where
       ∙ append_assoc (take n before) (take i word) (drop (n + i) before)
       ∙ ap₂ (λ (w : List ℕ) (k : ℕ). take n before ++ (w ++ drop (n + k) before)) (take_all i word l) e
 
+-- the word is f of each entry of xs
+module _ (before : List ℕ) (n : ℕ) (f : ℕ → ℕ) (xs : List ℕ) where
+  pub each_more : n + length xs ≤ length before → (i m v : ℕ) (out : List ℕ) → Putting before n (map f xs) i out → i < length xs → m ≡ n + i → v ≡ f (get_or xs i 0)
+      → Putting before n (map f xs) (i + 1) (set out m v)
+  each_more room i m v out inv l p e =
+      let long = length-map xs f in
+      putting_more before n (map f xs) (omega arith) i m v (f 0) out inv (omega arith) p (e ∙ sym (get_or-map f xs i 0))
+
+  pub each_all : (i : ℕ) (out : List ℕ) → Putting before n (map f xs) i out → length xs ≤ i → out ≡ put_at before n (map f xs)
+  each_all i out inv l =
+      let long = length-map xs f in
+      putting_all before n (map f xs) i out inv (omega arith)
+
 -- one byte is a word
 pub put_one : (out : List ℕ) (n b : ℕ) → n < length out → set out n b ≡ put_at out n (b ∷ [])
 unfolding put_at
 put_one out n b l = set_split out n b l ∙ ap (λ (k : ℕ). take n out ++ (b ∷ drop k out)) (sym (add-one n))
+
+-- a word that fills the part from n up to m is put there
+pub put_part : (out word : List ℕ) (n m : ℕ) → m ≡ n + length word → put_mid n (m - n) out word ≡ put_at out n word
+unfolding put_at
+put_part out word n m e = rw (Post-is n m out (omega arith), e) refl
 
 -- a word that is put right after another
 pub put_then : (out v w : List ℕ) (n m : ℕ) → n ≤ length out → m ≡ n + length v → put_at (put_at out n v) m w ≡ put_at out n (v ++ w)

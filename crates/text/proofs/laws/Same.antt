@@ -1,7 +1,9 @@
 -- `same_bytes` is true of two lists exactly when they are equal.
-use Rattle.std.specs.Prelude.{Bool, true, false, List, [], ◌∷◌, ◌≡◌, refl, ℕ, eqb}
+use Rattle.std.specs.Prelude.{◌&&◌, Bool, true, false, List, [], ◌∷◌, ◌≡◌, refl, ℕ, eqb}
 use Rattle.std.proofs.Common.{ap₂, subst, eq-eqb, eqb-true}
 use Rattle.bits.proofs.laws.Cases.{both_first, both_second}
+use Rattle.std.specs.Cmp.Lexicographic.{pointwise}
+use Rattle.bits.specs.Bits.{both}
 use Rattle.text.specs.Text.{same_bytes}
 
 equal : (a b : List ℕ) → same_bytes a b ≡ true → a ≡ b
@@ -27,3 +29,16 @@ other_bytes a b apart = go (same_bytes a b) refl
     go : (t : Bool) → same_bytes a b ≡ t → t ≡ false
     go true e = absurd (apart (equal a b e))
     go false e = refl
+
+-- std's `&&` is `both`
+pub and_both : (t : Bool) {x y : Bool} → x ≡ y → (t && x) ≡ both t y
+and_both true e = e
+and_both false e = refl
+
+-- `==` on slices of bytes is `same_bytes`
+pub pointwise_same : (a b : List ℕ) → pointwise eqb a b ≡ same_bytes a b
+unfolding same_bytes
+pointwise_same [] [] = refl
+pointwise_same [] (y ∷ b) = refl
+pointwise_same (x ∷ a) [] = refl
+pointwise_same (x ∷ a) (y ∷ b) = and_both (eqb x y) (pointwise_same a b)

@@ -14,7 +14,7 @@ use Rattle.register.proofs.laws.Steps.{from_lt}
 use Rattle.trellis.specs.Nearest.{pair_cost, row_at, row, nearest, nearest_count}
 use Rattle.trellis.specs.laws.Steps.{cost_into, cost_table, way_of, step_at, chosen_at, turned}
 use Rattle.trellis.proofs.laws.Steps.{other_way, costs_found}
-use Rattle.trellis.specs.laws.Memory.{bits_of, retrace, Remembers}
+use Rattle.trellis.specs.laws.Memory.{bits_of, retrace, Remembers, word_of}
 
 -- ---- one pair more, of which w are the costs
 module _ (r : List ℕ) (t : ℕ) (w : List ℕ) (ew : w ≡ tab 16 (cost_into (get_or r (2 * t) 0) (get_or r (2 * t + 1) 0))) where
@@ -114,15 +114,19 @@ pub costs_of : (r : List ℕ) → Symbols r → (table : List (List ℕ)) → ta
     → get_or table at [] ≡ tab 16 (cost_into (get_or r (2 * k) 0) (get_or r (2 * k + 1) 0))
 costs_of r sr table e k at ea = ap₂ (λ (t : List (List ℕ)) (i : ℕ). get_or t i []) e ea ∙ costs_found (get_or r (2 * k) 0) (get_or r (2 * k + 1) 0) (sr (2 * k)) (sr (2 * k + 1))
 
+pub word_is : (r f w : List ℕ) (k word : ℕ) → f ≡ row r k → w ≡ tab 16 (cost_into (get_or r (2 * k) 0) (get_or r (2 * k + 1) 0))
+    → word ≡ value (tab 16 (turned (chosen_at f w))) → word ≡ word_of r k
+word_is r f w k word ef ew e =
+    e
+    ∙ ap (λ (g : List ℕ). value (tab 16 (turned (chosen_at g w)))) ef
+    ∙ ap value (tab_same 16 (turned (chosen_at (row r k) w)) (turned (choice 8 (pair_cost r) 65535 k)) (λ i l. chosen_same r k w ew (15 - i) (omega arith)))
+
 pub remembers_more : (r m f w : List ℕ) (k word : ℕ) → k < length m → f ≡ row r k → w ≡ tab 16 (cost_into (get_or r (2 * k) 0) (get_or r (2 * k + 1) 0))
     → word ≡ value (tab 16 (turned (chosen_at f w))) → Remembers r k m → Remembers r (k + 1) (set m k word)
 remembers_more r m f w k word h ef ew e old =
-    below_more (λ (t : ℕ). get_or (set m k word) t 0 ≡ value (tab 16 (turned (choice 8 (pair_cost r) 65535 t)))) k
+    below_more (λ (t : ℕ). get_or (set m k word) t 0 ≡ word_of r t) k
     (λ t l. get_or-set_other m k t word 0 (λ (q : t ≡ k). omega (arith, q, l)) ∙ old t l)
-    (get_or-set_same m k word 0 h
-    ∙ e
-    ∙ ap (λ (g : List ℕ). value (tab 16 (turned (chosen_at g w)))) ef
-    ∙ ap value (tab_same 16 (turned (chosen_at (row r k) w)) (turned (choice 8 (pair_cost r) 65535 k)) (λ i l. chosen_same r k w ew (15 - i) (omega arith))))
+    (get_or-set_same m k word 0 h ∙ word_is r f w k word ef ew e)
 
 pub row_more : (r f g w : List ℕ) (k : ℕ) → f ≡ row r k → w ≡ tab 16 (cost_into (get_or r (2 * k) 0) (get_or r (2 * k + 1) 0)) → g ≡ tab 16 (step_at f w) → g ≡ row r (k + 1)
 row_more r f g w k ef ew eg = eg ∙ ap (λ (h : List ℕ). tab 16 (step_at h w)) ef ∙ row_next r k w ew ∙ ap (row r) (sym (add-one k))

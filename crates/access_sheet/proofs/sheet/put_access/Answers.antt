@@ -4,8 +4,7 @@ use Rattle.std.proofs.Math.ListN.{replicate, length-map}
 use Rattle.bits.specs.Bits.{zeros}
 use Rattle.text.specs.Text.{digit_of, bit_character, refused_as, put_at}
 use Rattle.text.proofs.laws.Put.{put_whole, length_refused}
-use Rattle.answers.specs.Answers.{Meets, number_of}
-use Rattle.answers.specs.declared.Told.{Told}
+use Rattle.answers.specs.Answers.{Meets, number_of, Told}
 use Rattle.coder.specs.Entries.{access_sent}
 use Rattle.access_sheet.proofs.laws.Sheet.{one_digit, said_done, said_refused}
 use Rattle.access_sheet.proofs.sheet.put_access.Goals as goal
@@ -20,29 +19,29 @@ met identity characters d after r l e m =
 
 pub put_refused-requires : goal.put_refused-requires
 put_refused-requires c =
-    (search rules, omega (arith, c.number.ensures, one_digit _ _ _ _ _ c.in-Refused.refusal c.send_access.ensures c.in-Refused.is))
+    (search rules, omega (arith, c.from.ensures, one_digit _ _ _ _ _ c.in-Err.refusal c.send_access.ensures c.in-Err.is))
 
-pub returns-in-Done : goal.returns-in-Done
-returns-in-Done c =
+pub returns-in-Ok : goal.returns-in-Ok
+returns-in-Ok c =
     let a = c.args in
     let after = c.send_access.new.e in
     let m = met a.identity a.characters.now c.read_bits.new.d after c.send_access.result c.requires.1 c.read_bits.ensures.1 c.send_access.ensures in
-    let e = said_done a.identity a.characters.now c.send_access.result after m c.in-Done.is in
+    let e = said_done a.identity a.characters.now c.send_access.result after m c.in-Ok.is in
     let put = c.put_bits.ensures in (
       search rules,
       put.0 ∙ ap (λ (k : ℕ). a.n + k) (sym (length-map after bit_character) ∙ ap length e),
       put.1 ∙ ap (put_at a.out.now a.n) e,
     )
 
-pub returns-in-Refused : goal.returns-in-Refused
-returns-in-Refused c =
+pub returns-in-Err : goal.returns-in-Err
+returns-in-Err c =
     let a = c.args in
     let after = c.send_access.new.e in
     let m = met a.identity a.characters.now c.read_bits.new.d after c.send_access.result c.requires.1 c.read_bits.ensures.1 c.send_access.ensures in
-    let e = said_refused a.identity a.characters.now c.send_access.result after m c.in-Refused.refusal c.in-Refused.is in
-    let n = ap refused_as c.number.ensures in
+    let e = said_refused a.identity a.characters.now c.send_access.result after m c.in-Err.refusal c.in-Err.is in
+    let n = ap refused_as c.from.ensures in
     let put = c.put_refused.ensures in (
       search rules,
-      put.0 ∙ ap (λ (k : ℕ). a.n + k) (sym (length_refused (number_of c.in-Refused.refusal)) ∙ ap length e),
+      put.0 ∙ ap (λ (k : ℕ). a.n + k) (sym (length_refused (number_of c.in-Err.refusal)) ∙ ap length e),
       put.1 ∙ ap (put_at a.out.now a.n) (n ∙ e),
     )

@@ -6,5 +6,5 @@ pub returns : goal.returns
 returns c =
     let s = c.args in
     let from = c.held_at-from in
-    let copy = c.copy in
-    kept_is s.held.now s.e.now copy.new.to s.b.0 from.result from.ensures.0 copy.ensures
+    let copy = c.copy_from_slice in
+    kept_is s.held.now s.e.now copy.new.self s.b.0 from.result from.ensures.0 copy.ensures.after

@@ -12,8 +12,8 @@ pub code-requires : goal.code-requires
 code-requires c =
     let d = c.args.d.now in
     let laid = c.lay_out.ensures in (
-      subst Bits (sym laid) (bits_control d c.requires.0 c.requires.1),
-      c.requires.2 ∙ ap (λ (n : ℕ). 2 * n) (sym (ap length laid ∙ length_control d c.requires.0 c.requires.1)),
+      subst Bits (sym laid) (bits_control d c.requires.bits c.requires.reads),
+      c.requires.lends ∙ ap (λ (n : ℕ). 2 * n) (sym (ap length laid ∙ length_control d c.requires.bits c.requires.reads)),
     )
 
 pub returns : goal.returns

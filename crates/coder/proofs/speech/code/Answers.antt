@@ -7,15 +7,15 @@ code-requires c =
     let filled = c.fill_u in
     let p = c.put_parity in
     let d = c.args.d.now in
-    coded_asked d c.requires.0 c.requires.1 c.args.c.now filled.new.u c.requires.2
-    (filled_u d c.requires.0 c.requires.1 p.new.p filled.new.u p.ensures filled.ensures)
+    coded_asked d c.requires.bits c.requires.reads c.args.c.now filled.new.u c.requires.lends
+    (filled_u d c.requires.bits c.requires.reads p.new.p filled.new.u p.ensures filled.ensures)
 
 pub returns : goal.returns
 returns c =
     let filled = c.fill_u in
     let p = c.put_parity in
     let pairs = c.code in
-    let rest = c.copy in
+    let rest = c.copy_from_slice in
     let d = c.args.d.now in
-    parts d c.requires.0 c.requires.1 c.args.c.now filled.new.u pairs.new.c rest.new.to c.requires.2
-    (filled_u d c.requires.0 c.requires.1 p.new.p filled.new.u p.ensures filled.ensures) pairs.ensures rest.ensures
+    parts d c.requires.bits c.requires.reads c.args.c.now filled.new.u pairs.new.c rest.new.self c.requires.lends
+    (filled_u d c.requires.bits c.requires.reads p.new.p filled.new.u p.ensures filled.ensures) pairs.ensures rest.ensures.after

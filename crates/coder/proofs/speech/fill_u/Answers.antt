@@ -6,6 +6,6 @@ pub returns : goal.returns
 returns c =
     let s = c.args in
     let laid = c.reorder in
-    let p = c.copy in
+    let p = c.copy_from_slice in
     let z = c.fill in
-    u_filled s.d.now s.p.now laid.new.u c.requires.1 laid.ensures p.new.to z.new.out p.ensures z.ensures
+    u_filled s.d.now s.p.now laid.new.u c.requires.1 laid.ensures p.new.self z.new.self p.ensures.after (z.ensures.after (λ y e. e))

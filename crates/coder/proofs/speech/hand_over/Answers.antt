@@ -13,6 +13,6 @@ give-requires c =
 pub returns : goal.returns
 returns c =
     let s = c.args in
-    let x = c.copy in
+    let x = c.copy_from_slice in
     let y = c.give in
-    laid_speech s.first.now s.c.now s.d.now x.new.to y.new.to c.requires.0 c.requires.1 c.requires.2 x.ensures y.ensures
+    laid_speech s.first.now s.c.now s.d.now x.new.self y.new.to c.requires.0 c.requires.1 c.requires.2 x.ensures.after y.ensures

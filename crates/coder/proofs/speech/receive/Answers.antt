@@ -12,17 +12,14 @@ use Rattle.coder.proofs.speech.receive.Goals as goal
 pub nearest-count-requires : goal.nearest-count-requires
 nearest-count-requires c =
     let bits = c.args.c.now in
-    (length-take-le 378 bits (omega (arith, c.requires.1)), lit≤ tt, refl, over_take 2 378 bits c.requires.0)
-
-pub slice_bounds-u-end : goal.slice_bounds-u-end
-slice_bounds-u-end c = omega (arith, c.nearest-count.ensures.2)
+    (length-take-le 378 bits (omega (arith, c.requires.reads)), lit≤ tt, refl, over_take 2 378 bits c.requires.bits)
 
 pub is_good-requires : goal.is_good-requires
 is_good-requires c =
     let s = c.args in
     let filled = c.fill_d in
     let found = c.nearest-count in
-    (bits_f s.c.now _ found.new.u _ filled.new.d c.requires.1 found.ensures.0 refl filled.ensures, bits_v s.c.now _ found.new.u _ filled.new.d c.requires.1 found.ensures.0 refl filled.ensures, long_f s.c.now _ found.new.u _ filled.new.d c.requires.1 found.ensures.0 refl filled.ensures, long_v s.c.now _ found.new.u _ filled.new.d c.requires.1 found.ensures.0 refl filled.ensures)
+    (bits_f s.c.now _ found.new.u _ filled.new.d c.requires.reads found.ensures.0 refl filled.ensures, bits_v s.c.now _ found.new.u _ filled.new.d c.requires.reads found.ensures.0 refl filled.ensures, long_f s.c.now _ found.new.u _ filled.new.d c.requires.reads found.ensures.0 refl filled.ensures, long_v s.c.now _ found.new.u _ filled.new.d c.requires.reads found.ensures.0 refl filled.ensures)
 
 pub returns-then-not-is_good : goal.returns-then-not-is_good
 returns-then-not-is_good c =
@@ -31,8 +28,8 @@ returns-then-not-is_good c =
     let found = c.nearest-count in
     let held = c.is_good in
     handed_bad (speech_heard s.c.now) s.d.now
-    held.result (speech_is s.c.now _ found.new.u _ filled.new.d c.requires.1 found.ensures.0 refl filled.ensures held.result held.ensures)
-    found.result (count_is s.c.now _ found.new.u _ filled.new.d c.requires.1 found.ensures.0 refl filled.ensures found.result found.ensures.1)
+    held.result (speech_is s.c.now _ found.new.u _ filled.new.d c.requires.reads found.ensures.0 refl filled.ensures held.result held.ensures)
+    found.result (count_is s.c.now _ found.new.u _ filled.new.d c.requires.reads found.ensures.0 refl filled.ensures found.result found.ensures.1)
     (c.if-not-is_good.true)
 
 pub returns : goal.returns
@@ -43,6 +40,6 @@ returns c =
     let held = c.is_good in
     let over = c.hand_over in
     handed_good (speech_heard s.c.now) s.d.now
-    held.result (speech_is s.c.now _ found.new.u _ filled.new.d c.requires.1 found.ensures.0 refl filled.ensures held.result held.ensures)
-    found.result (count_is s.c.now _ found.new.u _ filled.new.d c.requires.1 found.ensures.0 refl filled.ensures found.result found.ensures.1)
-    over.new.d (c.if-not-is_good.false) (bits_are s.c.now _ found.new.u _ filled.new.d c.requires.1 found.ensures.0 refl filled.ensures over.new.d over.ensures)
+    held.result (speech_is s.c.now _ found.new.u _ filled.new.d c.requires.reads found.ensures.0 refl filled.ensures held.result held.ensures)
+    found.result (count_is s.c.now _ found.new.u _ filled.new.d c.requires.reads found.ensures.0 refl filled.ensures found.result found.ensures.1)
+    over.new.d (c.if-not-is_good.false) (bits_are s.c.now _ found.new.u _ filled.new.d c.requires.reads found.ensures.0 refl filled.ensures over.new.d over.ensures)

@@ -1,10 +1,7 @@
-use Prim.Native.Nat.{◌+◌, ◌-◌, ◌*◌, ◌≤◌}
+use Rattle.std.specs.Prelude.{◌+◌, ◌*◌}
 use Rattle.bits.proofs.laws.Tab.{Filled}
 use Rattle.frames.specs.laws.Layout.{laid_at}
 use Rattle.frames.proofs.layout.lay_out.Given as goal
 
 abbrev pub invariant-loop-group : goal.invariant-loop-group
-invariant-loop-group l = (l.group ≤ 19) × Filled (laid_at l.carried) 320 (16 * l.group + 16) l.frame
-
-abbrev pub decreases-loop-group : goal.decreases-loop-group
-decreases-loop-group l = 19 - l.group
+invariant-loop-group l = Filled (laid_at l.carried) 320 (16 * l.group + 16) l.frame

@@ -1,31 +1,19 @@
--- `is_hex` is right: it goes on while the characters are digits. Assumes nothing.
-use mathlib.Core.Path.{sym}
-use Prim.Native.Nat.{ℕ, ◌≤◌}
-use native.Mathlib.Omega.{arith}
-use borrow.Author.Count.{below_none, below_more}
-use borrow.Author.Rules.{rules}
-use lib.ListN.{get_or}
-use Rattle.text.specs.Hexadecimal.{hex_digit}
-use Rattle.text.proofs.laws.Hexadecimal.{hex_even, hex_each, is_hex_lem, not_hex}
+-- `is_hex` is right: each character is a digit. Assumes nothing.
+use Rattle.std.proofs.Common.{rules, ◌∙◌, leb}
+use Rattle.std.proofs.lemmas.Iterator.{YieldsList-from_slice}
+use Rattle.std.proofs.lemmas.Iterator.Search.{all_from_yields_List}
+use borrow.Author.Tests.{eq-eqb, ne_eqb}
+use Rattle.text.specs.Hexadecimal.{hex_digit, is_hex}
+use Rattle.text.proofs.laws.Hexadecimal.{all_pass}
 use Rattle.text.proofs.hex.is_hex.Goals as goal
 
-pub returns-then-text-ne0 : goal.returns-then-text-ne0
-returns-then-text-ne0 c = sym (not_hex c.args.text.now (λ t. c.if-text-ne0.true (hex_even c.args.text.now t)))
+pub returns-then-text-eq0 : goal.returns-then-text-eq0
+unfolding is_hex
+returns-then-text-eq0 c =
+    rw (eq-eqb _ 0 c.if-text-eq0.true)
+    (all_from_yields_List (λ x. leb (hex_digit x) 15) _ _ _ c.all.ensures.ran (YieldsList-from_slice c.args.text.now cc) (λ x b q k. search rules)
+    ∙ all_pass c.args.text.now)
 
-pub loop-i-init : goal.loop-i-init
-loop-i-init c = (omega arith, below_none (λ (k : ℕ). hex_digit (get_or c.args.text.now k 0) ≤ 15))
-
-pub returns-then-hex_digit-gt15 : goal.returns-then-hex_digit-gt15
-returns-then-hex_digit-gt15 c =
-    let text = c.args.text.now in
-    sym (not_hex text (λ t. omega (arith, hex_each text t c.loop-i.i c.loop-i-test.true, c.hex_digit.ensures)))
-
-pub loop-i-preserved : goal.loop-i-preserved
-loop-i-preserved c =
-    let text = c.args.text.now in
-    (search rules, below_more (λ (k : ℕ). hex_digit (get_or text k 0) ≤ 15) c.loop-i.i c.loop-i.invariant.1 (omega (arith, c.hex_digit.ensures)))
-
-pub returns : goal.returns
-returns c =
-    let text = c.args.text.now in
-    sym (is_hex_lem text (omega arith) (λ k lt. c.loop-i.invariant.1 k (omega arith)))
+pub returns-else-text-eq0 : goal.returns-else-text-eq0
+unfolding is_hex
+returns-else-text-eq0 c = rw (ne_eqb _ 0 c.if-text-eq0.false)

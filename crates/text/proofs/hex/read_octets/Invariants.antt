@@ -1,10 +1,6 @@
-use Prim.Native.Nat.{◌-◌, ◌≤◌}
 use Rattle.text.specs.Hexadecimal.{octets_of}
 use Rattle.text.proofs.laws.Put.{Putting}
 use Rattle.text.proofs.hex.read_octets.Given as goal
 
 abbrev pub invariant-loop-i : goal.invariant-loop-i
-invariant-loop-i l = (l.i ≤ l.n) × Putting l.initial.octets 0 (octets_of l.text) l.i l.octets
-
-abbrev pub decreases-loop-i : goal.decreases-loop-i
-decreases-loop-i l = l.n - l.i
+invariant-loop-i l = Putting l.initial.octets 0 (octets_of l.text) l.i l.octets

@@ -5,5 +5,5 @@ use Rattle.trellis.proofs.search.fewest.Goals as goal
 pub returns : goal.returns
 returns c =
     let s = c.args in
-    let last = c.last_row-row in
-    count_is s.c.now last.result s.n last.ensures
+    let last = c.search-row in
+    count_is s.c.now last.result s.n last.ensures.row
