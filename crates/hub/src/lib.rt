@@ -131,6 +131,7 @@ impl Hub {
     }
 
     // Hears an access burst: 36 received bits to 8, for the place whose identity accepts it. One decoding names the one identity that can.
+    #[tactic(auto, unfolding(crate::specs::Hub::hub_answer))]
     pub fn hear(self, e: &[u8], d: &mut [u8]) -> Answered
         ensures { Meets (hub_answer self (hear e.now d.old)) result d.new }
     {
