@@ -1,5 +1,5 @@
-// The answer to a line: a word, what is wrong, numbers and bytes, any of which may be missing.
-ghost use Rattle.std.specs.Prelude.{[], ◌∷◌, ◌≡◌, ◌≤◌, length};
+// The answer to a line: a word and what it says more, numbers and bytes, any of which may be missing.
+ghost use Rattle.std.specs.Prelude.{[], ◌∷◌, ◌≡◌, ◌≤◌, ◌<◌, Some, IfSome, length, take};
 
 use answers::{Refusal, Returned};
 use arrayvec::ArrayVec;
@@ -19,27 +19,37 @@ pub enum Form {
     Parted,
 }
 
-// Where bytes are said, it is so many of those that were written, in a form; of none it is said that there is none.
+// Two words, each of which is what stands before its first space; where a word is empty, there is none. The numbers are said, and of the bytes that
+// were written so many, in a form; of none it is said that there is none.
 #[derive(Drop)]
 pub struct Answer {
-    pub(crate) word: &'static [u8],
-    pub(crate) wrong: Option<Fault>,
-    pub(crate) numbers: ArrayVec<u32, 16>,
-    pub(crate) bytes: Option<(usize, Form)>,
-    ghost short: { length word.now ≤ 8 },
+    pub word: ArrayVec<u8, 8>,
+    pub what: ArrayVec<u8, 8>,
+    pub numbers: ArrayVec<u32, 16>,
+    pub bytes: Option<usize>,
+    pub form: Form,
+}
+
+// The first eight bytes of a word.
+fn kept(word: &[u8]) -> ArrayVec<u8, 8>
+    ensures { result.items ≡ take 8 word.now }
+{
+    let mut kept = ArrayVec::new();
+    let _ = kept.try_extend_from_slice(&word[..word.len().min(8)]);
+    kept
 }
 
 impl Answer {
     // A word alone.
-    fn new(word: &'static [u8]) -> Self
-        requires { length word.now ≤ 8 }
-        ensures { result.word.now ≡ word.now }
+    pub fn new(word: &[u8]) -> Self
+        ensures { result.word.items ≡ take 8 word.now }
     {
         Self {
-            word,
-            wrong: None,
+            word: kept(word),
+            what: ArrayVec::new(),
             numbers: ArrayVec::new(),
             bytes: None,
+            form: Form::Digits,
         }
     }
 
@@ -50,7 +60,7 @@ impl Answer {
 
     // The answer where all begins anew.
     pub fn fresh() -> Self
-        ensures { result.word.now ≡ 102 ∷ 114 ∷ 101 ∷ 115 ∷ 104 ∷ [] }
+        ensures { result.word.items ≡ 102 ∷ 114 ∷ 101 ∷ 115 ∷ 104 ∷ [] }
     {
         Self::new(b"fresh")
     }
@@ -74,14 +84,12 @@ impl Answer {
         }
     }
 
-    // The first so many of the bytes that were written.
-    fn with_bytes(mut self, count: usize, form: Form) -> Self {
-        self.bytes = Some((count, form));
+    // The first so many of the bytes that were written, if any.
+    fn with_bytes(mut self, count: usize) -> Self
+        ensures { IfSome result.bytes (λ n. (n ≡ count) × (0 < n)) }
+    {
+        self.bytes = if count > 0 { Some(count) } else { None };
         self
-    }
-
-    fn with_bits(self, count: usize) -> Self {
-        self.with_bytes(count, Form::Digits)
     }
 
     // This, of_said and of_frame are no From: they are told besides how many bytes are said.
@@ -90,7 +98,7 @@ impl Answer {
         let number = returned.number;
         let count = returned.count;
         match number {
-            None => Self::new(b"").with(count).with_bits(bits),
+            None => Self::new(b"").with(count).with_bytes(bits),
             Some(number) => Self::refused(number).with(count),
         }
     }
@@ -103,7 +111,7 @@ impl Answer {
             Ok(Said::Request(place, count)) => Self::new(b"")
                 .with_number(u32::from(place))
                 .with_number(u32::from(count))
-                .with_bits(bits),
+                .with_bytes(bits),
             Err(why) => Self::from(why),
         }
     }
@@ -111,7 +119,11 @@ impl Answer {
     // What was written of a frame, in its form; or the refusal.
     pub fn of_frame(told: Result<(), Refusal>, count: usize, form: Form) -> Self {
         match told {
-            Ok(()) => Self::new(b"").with_bytes(count, form),
+            Ok(()) => {
+                let mut answer = Self::new(b"").with_bytes(count);
+                answer.form = form;
+                answer
+            }
             Err(why) => Self::from(why),
         }
     }
@@ -119,25 +131,29 @@ impl Answer {
     // No, and what is wrong.
     fn no(fault: Fault) -> Self {
         let mut answer = Self::new(b"no");
-        answer.wrong = Some(fault);
+        answer.what = kept(fault_word(fault));
         answer
     }
 
     // 260 bits of speech, 184 of FACCH.
     fn of_kind(kind: Kind) -> Self {
         match kind {
-            Kind::Speech => Self::new(b"speech").with_bits(260),
-            Kind::Facch => Self::new(b"facch").with_bits(184),
+            Kind::Speech => Self::new(b"speech").with_bytes(260),
+            Kind::Facch => Self::new(b"facch").with_bytes(184),
             Kind::Neither => Self::new(b"waiting"),
         }
     }
 
-    // The same where the line lent n bytes: what had bits alone is done, and all bytes are said.
-    pub fn with_lent(mut self, n: usize) -> Self {
-        if self.numbers.is_empty() && self.bytes.is_some() {
-            self.word = b"done";
+    // The same where the line lent n bytes: what had bits alone is done, and all bytes are said, in their form.
+    pub fn with_lent(mut self, n: usize) -> Self
+        ensures all { result.bytes ≡ Some n }
+        ensures form { result.form ≡ self.form }
+    {
+        if self.numbers.is_empty() && self.bytes.unwrap_or(0) > 0 {
+            self.word = kept(b"done");
         }
-        self.with_bits(n)
+        self.bytes = Some(n);
+        self
     }
 }
 
@@ -205,5 +221,17 @@ impl From<Values> for Answer {
             Some(number) => Self::refused(number),
         };
         answer.with(values.block).with(values.count)
+    }
+}
+
+// What is wrong with a block or its count, in a word.
+fn fault_word(fault: Fault) -> &'static [u8]
+    ensures { length result.now ≤ 8 }
+{
+    match fault {
+        Fault::Length => b"length",
+        Fault::Tail => b"tail",
+        Fault::Count => b"count",
+        Fault::Fewest => b"fewest",
     }
 }

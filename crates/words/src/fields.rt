@@ -28,7 +28,8 @@ pub fn rest_of(line: &[u8], k: usize) -> &[u8]
     ensures { length result.now ≤ length line.now }
 {
     let mut rest = line;
-    for _ in 0..k {
+    // a line has no more spaces than bytes, so that nothing is left after as many turns
+    for _ in 0..k.min(line.len()) {
         rest = after_space(rest);
     }
     rest

@@ -2,7 +2,7 @@
 ghost use Rattle.std.specs.Prelude.{◌≡◌, ◌+◌, ◌≤◌, length};
 
 use crate::answer::{Answer, Form};
-use marking::Fault;
+use crate::fields::field;
 use text::{put_byte, put_number, put_octets, put_word};
 
 // A buffer and the place in it go together here as in text's put.rt, for the reason that stands there; put_answer and put_said are public and take a slice.
@@ -11,36 +11,22 @@ pub fn put_answer(out: &mut [u8], answer: Answer, written: &[u8]) -> usize
     requires { (length written.now ≤ 600) × (1000 ≤ length out.old) }
     ensures { result ≤ 1000 }
 {
-    let n = put_word(out, 0, answer.word);
-    let w = put_wrong(out, n, answer.wrong);
+    let n = put_word(out, 0, field(&answer.word, 0));
+    let w = put_what(out, n, field(&answer.what, 0));
     let m = put_numbers(out, w, &answer.numbers);
-    put_bytes(out, m, answer.bytes, written)
+    put_bytes(out, m, answer.bytes, answer.form, written)
 }
 
-// What is wrong, where something is.
-fn put_wrong(out: &mut [u8], n: usize, wrong: Option<Fault>) -> usize
-    requires { (n ≤ 8) × (1000 ≤ length out.old) }
+// The second word, where there is one.
+fn put_what(out: &mut [u8], n: usize, what: &[u8]) -> usize
+    requires { (n ≤ 8) × (length what.now ≤ 8) × (1000 ≤ length out.old) }
     ensures { result ≤ 17 }
 {
-    match wrong {
-        Some(fault) => {
-            let m = put_space(out, n);
-            put_word(out, m, fault_word(fault))
-        }
-        None => n,
+    if what.is_empty() {
+        return n;
     }
-}
-
-// What is wrong with a block or its count, in a word.
-fn fault_word(fault: Fault) -> &'static [u8]
-    ensures { length result.now ≤ 8 }
-{
-    match fault {
-        Fault::Length => b"length",
-        Fault::Tail => b"tail",
-        Fault::Count => b"count",
-        Fault::Fewest => b"fewest",
-    }
+    let m = put_space(out, n);
+    put_word(out, m, what)
 }
 
 fn put_numbers(out: &mut [u8], n: usize, numbers: &[u32]) -> usize
@@ -56,14 +42,14 @@ fn put_numbers(out: &mut [u8], n: usize, numbers: &[u32]) -> usize
 }
 
 // The bytes that are said, if any.
-fn put_bytes(out: &mut [u8], n: usize, bytes: Option<(usize, Form)>, written: &[u8]) -> usize
+fn put_bytes(out: &mut [u8], n: usize, bytes: Option<usize>, form: Form, written: &[u8]) -> usize
     requires { (n ≤ 353) × (length written.now ≤ 600) × (1000 ≤ length out.old) }
     ensures { result ≤ 1000 }
 {
     match bytes {
         None => n,
-        Some((0, _)) => put_word(out, n, b" -"),
-        Some((count, form)) => {
+        Some(0) => put_word(out, n, b" -"),
+        Some(count) => {
             let m = put_space(out, n);
             put_written(out, m, first(written, count), form)
         }

@@ -155,7 +155,7 @@ module _ (reads n : ℕ) (r u : List ℕ) (count : ℕ) where
       (λ l h. x.two l h ∙ sym (y.two l h))
       (λ l h. deserves_once n ch.tail ch.short (counting n r) u count m o (x.marked l h.0 h.1) (y.marked l h.0 h.1))
 
-  -- ---- what `marking::mark_of` asks first
+  -- ---- what `marking::mark` asks first
   module _ (t : Told) (is : t ≡ judged length_test bits_test true) where
     pub done_read : t ≡ (Ok tt) → (length r ≡ reads) × Symbols r × Bits u
     done_read e =
