@@ -20,29 +20,25 @@ fn is_space(character: &u8) -> bool
 pub fn field(line: &[u8], k: usize) -> &[u8]
     ensures { length result.now ≤ length line.now }
 {
-    line.split(is_space).nth(k).unwrap_or(b"")
+    let rest = rest_of(line, k);
+    let end = rest.iter().position(is_space).unwrap_or(rest.len());
+    &rest[..end]
 }
 
-// What stands from field k on; where there is none, nothing.
+// What stands from field k on; where there is none, nothing. The line is looked at once, whatever k is.
 pub fn rest_of(line: &[u8], k: usize) -> &[u8]
     ensures { length result.now ≤ length line.now }
 {
-    let mut rest = line;
-    // a line has no more spaces than bytes, so that nothing is left after as many turns
-    for _ in 0..k.min(line.len()) {
-        rest = after_space(rest);
+    let mut left = k;
+    for (at, character) in line.iter().enumerate() {
+        if left == 0 {
+            return &line[at..];
+        }
+        if is_space(character) {
+            left -= 1;
+        }
     }
-    rest
-}
-
-// What stands after the first space; where there is none, nothing.
-fn after_space(line: &[u8]) -> &[u8]
-    ensures { length result.now ≤ length line.now }
-{
-    match line.iter().position(is_space) {
-        Some(at) => &line[at + 1..],
-        None => b"",
-    }
+    b""
 }
 
 // One to five digits, at most 65535; nothing else is a number.
