@@ -1,5 +1,5 @@
 // The answer to a line: a word and what it says more, numbers and bytes, any of which may be missing.
-ghost use Rattle.std.specs.Prelude.{[], ◌∷◌, ◌≡◌, ◌≤◌, ◌<◌, Some, IfSome, length, take};
+ghost use Rattle.std.specs.Prelude.{[], ◌∷◌, ◌≡◌, ◌≤◌, ◌<◌, Some, MatchOption, length, take};
 
 use answers::{Refusal, Returned};
 use arrayvec::ArrayVec;
@@ -19,8 +19,8 @@ pub enum Form {
     Parted,
 }
 
-// Two words, each of which is what stands before its first space; where a word is empty, there is none. The numbers are said, and of the bytes that
-// were written so many, in a form; of none it is said that there is none.
+// Two words, each of which is what stands before its first space; where a word is empty, there is none. The numbers are said, and where there are bytes,
+// so many of those that were written, in the form; of Some(0) it is said that there is none.
 #[derive(Drop)]
 pub struct Answer {
     pub word: ArrayVec<u8, 8>,
@@ -86,7 +86,7 @@ impl Answer {
 
     // The first so many of the bytes that were written, if any.
     fn with_bytes(mut self, count: usize) -> Self
-        ensures { IfSome result.bytes (λ n. (n ≡ count) × (0 < n)) }
+        ensures { MatchOption result.bytes (count ≡ 0) (λ n. (n ≡ count) × (0 < n)) }
     {
         self.bytes = if count > 0 { Some(count) } else { None };
         self
